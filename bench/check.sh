@@ -1,0 +1,34 @@
+#!/bin/sh
+# Times `./tutor check` beside `cat` on proofs of growing length, up to one near the limits of 2,000 lines and 262,144
+# bytes. Prints a row for each length: lines, bytes, milliseconds of a run of `cat` and of `check`, and its answer.
+set -eu
+here=$(cd "$(dirname "$0")" && pwd)
+tutor=$here/../tutor
+runs=${1:-20}
+input=$(mktemp)
+trap 'rm -f "$input"' EXIT
+
+# The time of one run of a command over the input, in microseconds: the mean of $runs runs.
+mean() {
+    begin=$(date +%s%N)
+    run=0
+    while [ "$run" -lt "$runs" ]; do
+        "$@" < "$input" > /dev/null || true
+        run=$((run + 1))
+    done
+    end=$(date +%s%N)
+    echo $(((end - begin) / runs / 1000))
+}
+
+milliseconds() {
+    awk -v micros="$1" 'BEGIN { printf "%.2f", micros / 1000 }'
+}
+
+"$tutor" > /dev/null || true # builds the program where it isn't there
+printf '%6s %8s %8s %8s  %s\n' lines bytes cat check answer
+for lines in 250 502 1000 1999; do
+    sh "$here/proof.sh" "$lines" 79 > "$input"
+    answer=$("$tutor" check < "$input") || true
+    printf '%6d %8d %8s %8s  %s\n' "$lines" "$(wc -c < "$input")" \
+        "$(milliseconds "$(mean cat)")" "$(milliseconds "$(mean "$tutor" check)")" "$answer"
+done

@@ -1,0 +1,4 @@
+pub mod Lists
+pub mod Equations
+pub mod Scanning
+pub mod Laws

@@ -1,0 +1,4 @@
+pub mod Causes
+pub mod Flow
+pub mod Calls
+pub mod Memory

@@ -1,0 +1,17 @@
+//! The edges of the program: bytes that come in and go out, over traits whose contracts say what was moved and
+//! count every failure.
+#![tactic(auto)]
+
+mod adapters;
+mod calls;
+mod edges;
+mod mem_sink;
+mod mem_source;
+
+pub use adapters::{Reading, Writing};
+pub use edges::{Failed, Sink, Source};
+pub use mem_sink::MemSink;
+pub use mem_source::MemSource;
+
+/// A list of bytes.
+pub type Bytes = lists::Listed<u8>;

@@ -1,0 +1,6 @@
+mod Wholes
+mod Complete
+mod Sound
+mod Lexing
+mod Reading
+pub mod SmallTexts

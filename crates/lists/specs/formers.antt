@@ -1,0 +1,2 @@
+pub mod listed
+pub mod several

@@ -1,0 +1,10 @@
+pub mod Once
+pub mod Resuming
+pub mod Declaring
+pub mod Places
+pub mod Following
+pub mod Spelled
+pub mod Citing
+pub mod Refusing
+pub mod Sound
+pub mod Verdicts

@@ -1,0 +1,4 @@
+pub mod Trimming
+pub mod Splitting
+pub mod Counting
+pub mod Cutting

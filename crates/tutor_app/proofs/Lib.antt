@@ -1,0 +1,3 @@
+pub mod Transferring
+pub mod Checking
+pub mod Telling

@@ -1,0 +1,6 @@
+pub mod Transfer
+pub mod Reply
+pub mod Run
+pub mod Check
+pub mod CheckLaws
+pub mod Words

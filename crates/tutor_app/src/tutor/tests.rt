@@ -1,0 +1,185 @@
+ghost use Rattle.std.specs.Prelude.{◌<◌};
+
+use super::*;
+use edge_io::{Bytes, MemSink, MemSource};
+use std::alloc::AllocError;
+use std::test::Fail;
+
+/// A run over edges in memory, and what it must give.
+struct Case<'a> {
+    words: &'a [&'a str],
+    /// how many bytes the input has
+    length: usize,
+    /// the most bytes that a call reads or writes
+    piece: usize,
+    reads_fail: &'a [u32],
+    writes_fail: &'a [u32],
+    /// how many bytes the output has room for
+    room: usize,
+    code: u8,
+    taken: &'a [u8],
+    /// how many bytes of the input aren't read
+    left: usize,
+}
+
+/// An input that isn't of the form, within the limit, over edges that never fail.
+const PLAIN: Case<'static> = Case {
+    words: &["check"],
+    length: 100,
+    piece: 1_000_000,
+    reads_fail: &[],
+    writes_fail: &[],
+    room: 1_000,
+    code: 3,
+    taken: b"unreadable\n",
+    left: 0,
+};
+
+/// Words that ask for no command.
+const REFUSED: Case<'static> = Case {
+    code: 2,
+    taken: b"",
+    left: 100,
+    ..PLAIN
+};
+
+const CASES: [Case<'static>; 14] = [
+    PLAIN,
+    Case { piece: 1, ..PLAIN },
+    Case {
+        words: &[],
+        ..REFUSED
+    },
+    Case {
+        words: &["check", "x"],
+        ..REFUSED
+    },
+    Case {
+        words: &["-h"],
+        ..REFUSED
+    },
+    Case {
+        words: &["help"],
+        ..REFUSED
+    },
+    Case {
+        length: 262_144,
+        ..PLAIN
+    },
+    Case {
+        length: 262_145,
+        code: 9,
+        taken: b"",
+        ..PLAIN
+    },
+    Case {
+        length: 262_150,
+        code: 9,
+        taken: b"",
+        left: 5,
+        ..PLAIN
+    },
+    Case {
+        reads_fail: &[1],
+        code: 4,
+        taken: b"",
+        left: 100,
+        ..PLAIN
+    },
+    Case {
+        reads_fail: &[2],
+        piece: 60,
+        code: 4,
+        taken: b"",
+        left: 40,
+        ..PLAIN
+    },
+    Case {
+        room: 4,
+        code: 5,
+        taken: b"unre",
+        ..PLAIN
+    },
+    Case {
+        writes_fail: &[1],
+        code: 5,
+        taken: b"",
+        ..PLAIN
+    },
+    Case {
+        writes_fail: &[3],
+        piece: 5,
+        code: 5,
+        taken: b"unreadable",
+        ..PLAIN
+    },
+];
+
+fn words_of(alloc: Global, texts: &[&str]) -> Result<Words, AllocError> {
+    let mut words = Words::new(alloc);
+    for text in texts {
+        words.add(Bytes::from_slice(alloc, text.as_bytes())?)?;
+    }
+    Ok(words)
+}
+
+/// The exit status of the case, with the edges as the run left them.
+fn run(alloc: Global, case: &Case<'_>) -> Result<(u8, MemSource, MemSink), AllocError>
+    requires some { 0 < case.now.piece }
+{
+    let bytes = vec![in alloc; b'x'; case.length]?;
+    let mut input = MemSource::new(alloc, &bytes, case.piece, case.reads_fail)?;
+    let mut output = MemSink::new(alloc, case.room, case.piece, case.writes_fail)?;
+    let words = words_of(alloc, case.words)?;
+    let status = tutor(alloc, &words, &mut input, &mut output);
+    Ok((status.code, input, output))
+}
+
+#[test]
+fn ends_as_the_words_the_length_and_the_edges_say(rt: HostRuntime) -> Result<(), Fail> {
+    for case in &CASES {
+        assert!(rt; case.piece > 0);
+        let (code, input, output) = run(rt.alloc(), case)?;
+        assert_eq!(rt; code, case.code);
+        assert_eq!(rt; output.taken(), case.taken);
+        assert_eq!(rt; input.left().len(), case.left);
+        assert_eq!(rt; input.failed(), u64::from(code == 4));
+        assert_eq!(rt; output.failed(), u64::from(code == 5));
+    }
+    Ok(())
+}
+
+/// The swap of conjuncts, with the lines that follow its first one.
+fn swap_with(alloc: Global, lines: &str) -> Result<String, AllocError> {
+    format!(in alloc;
+        "task 1\npremise Cube(a) & Tet(b)\ngoal Tet(b) & Cube(a)\nproof 1\n1 | Cube(a) & Tet(b) ; Premise\n{lines}"
+    )
+}
+
+#[test]
+fn prints_the_verdict(rt: HostRuntime) -> Result<(), Fail> {
+    let alloc = rt.alloc();
+    let words = words_of(alloc, &["check"])?;
+    for (lines, code, printed) in [
+        (
+            "2 | Tet(b) ; & Elim: 1\n3 | Cube(a) ; & Elim: 1\n4 | Tet(b) & Cube(a) ; & Intro: 2, 3\n",
+            0,
+            "correct\n",
+        ),
+        (
+            "2 | Tet(b) ; & Elim: 2\n3 | Cube(a) ; & Elim: 1\n4 | Tet(b) & Cube(a) ; & Intro: 2, 3\n",
+            1,
+            "wrong line 2\n",
+        ),
+        ("", 1, "wrong line 1\n"),
+        ("\n", 3, "unreadable\n"),
+    ] {
+        let text = swap_with(alloc, lines)?;
+        let mut input = MemSource::new(alloc, text.as_bytes(), 7, &[])?;
+        let mut output = MemSink::new(alloc, 100, 3, &[])?;
+        let status = tutor(alloc, &words, &mut input, &mut output);
+        assert_eq!(rt; status.code, code);
+        assert_eq!(rt; output.taken(), printed.as_bytes());
+    }
+    Ok(())
+}
