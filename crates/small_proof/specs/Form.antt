@@ -3,8 +3,7 @@ use Rattle.std.specs.Prelude.{◌≡◌, ℕ, Bool, true, not, ◌&&◌, ◌==�
 use Rattle.std.specs.List.{list_all}
 use Rattle.std.specs.Str.Lines.{lines}
 use Rattle.small_proof.specs.Line.{AreProofLines}
-use Rattle.small_proof.specs.Task.{IsHeader, task_header}
-use Rattle.small_proof.specs.Task.{DeclareTask}
+use Rattle.small_proof.specs.Task.{IsHeader, DeclareTask, task_header}
 use Rattle.small_proof.specs.declared.form.SmallForm.{SmallForm}
 
 -- The byte is of ASCII and no carriage return.

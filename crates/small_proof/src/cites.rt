@@ -1,7 +1,6 @@
-ghost use Rattle.std.specs.Prelude.{◌≡◌, ◌++◌, ◌≤◌, ◌∷◌, [], ℕ, length, IfOk, MatchBool};
-ghost use Rattle.small_proof.specs.Readers.{Finds};
-ghost use Rattle.small_proof.specs.Reason.{IsCite, AreCites};
-ghost use Rattle.small_proof.specs.Readers.{Takes};
+ghost use Rattle.std.specs.Prelude.{IfOk};
+ghost use Rattle.small_proof.specs.Readers.{Finds, Takes};
+ghost use Rattle.small_proof.specs.Reason.{AreCites};
 
 use crate::form::Numbers;
 use lists::Listed;

@@ -1,4 +1,4 @@
-ghost use Rattle.std.specs.Prelude.{◌≤◌, length, IfOk};
+ghost use Rattle.std.specs.Prelude.{IfOk};
 ghost use Rattle.std.specs.Str.Lines.{lines};
 ghost use Rattle.small_proof.specs.Readers.{Finds};
 ghost use Rattle.small_proof.specs.Line.{AreProofLines};

@@ -1,8 +1,7 @@
 ghost use Rattle.std.specs.Prelude.{◌≡◌, ◌≤◌, [], ◌∷◌, length, IfOk, MatchOption};
 ghost use Rattle.fol_core.specs.declared.sent.Sent.{Sent as Sentence};
-ghost use Rattle.small_proof.specs.Readers.{Finds};
 ghost use Rattle.small_proof.specs.Task.{IsDeclared};
-ghost use Rattle.small_proof.specs.Readers.{IsDeclaration, FindsTask};
+ghost use Rattle.small_proof.specs.Readers.{Finds, IsDeclaration, FindsTask};
 
 use crate::sentence::small_sentence;
 use fol_core::{Sent, Sents};

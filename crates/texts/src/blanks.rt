@@ -11,7 +11,7 @@ fn is_blank(byte: u8) -> bool
 
 /// What follows the blank, a space or a tab, that the text begins with; none where it begins with none.
 pub fn after_blank(text: &[u8]) -> Option<&[u8]>
-    ensures { MatchOption result ((rest : List ℕ) → BeginsBlank text.now rest → ⊥) (λ rest. BeginsBlank text.now rest.now) }
+    ensures value { MatchOption result ((rest : List ℕ) → BeginsBlank text.now rest → ⊥) (λ rest. BeginsBlank text.now rest.now) }
 {
     match text {
         [first, rest @ ..] if is_blank(*first) => Some(rest),
@@ -21,7 +21,7 @@ pub fn after_blank(text: &[u8]) -> Option<&[u8]>
 
 /// The text without the blanks, spaces and tabs, that it begins with.
 pub fn trim_start(text: &[u8]) -> &[u8]
-    ensures { result.now ≡ after_blanks text.now }
+    ensures value { result.now ≡ after_blanks text.now }
 {
     let mut rest = text;
     while let [first, tail @ ..] = rest {
@@ -35,7 +35,7 @@ pub fn trim_start(text: &[u8]) -> &[u8]
 
 /// The text without the blanks, spaces and tabs, that it ends with.
 pub fn trim_end(text: &[u8]) -> &[u8]
-    ensures { result.now ≡ before_blanks text.now }
+    ensures value { result.now ≡ before_blanks text.now }
 {
     let mut rest = text;
     while let [front @ .., last] = rest {
@@ -49,7 +49,7 @@ pub fn trim_end(text: &[u8]) -> &[u8]
 
 /// The text without the blanks, spaces and tabs, at its ends.
 pub fn trim(text: &[u8]) -> &[u8]
-    ensures { result.now ≡ trimmed text.now }
+    ensures value { result.now ≡ trimmed text.now }
 {
     trim_end(trim_start(text))
 }

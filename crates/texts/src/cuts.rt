@@ -3,7 +3,7 @@ ghost use Rattle.texts.specs.Cuts.{Lacks, IsCut};
 
 /// What stands before and after the first such byte; none where the text has no such byte.
 pub fn cut(text: &[u8], at: u8) -> Option<(&[u8], &[u8])>
-    ensures { MatchOption result (Lacks at text.now) (λ p. IsCut at text.now p.0.now p.1.now) }
+    ensures value { MatchOption result (Lacks at text.now) (λ p. IsCut at text.now p.0.now p.1.now) }
 {
     for place in 0..text.len() {
         if text[place] == at {
@@ -15,7 +15,7 @@ pub fn cut(text: &[u8], at: u8) -> Option<(&[u8], &[u8])>
 
 /// What follows the prefix; none where the text doesn't begin with it.
 pub fn after_prefix<'a>(text: &'a [u8], prefix: &[u8]) -> Option<&'a [u8]>
-    ensures { MatchOption result ((rest : List ℕ) → text.now ≡ prefix.now ++ rest → ⊥) (λ rest. text.now ≡ prefix.now ++ rest.now) }
+    ensures value { MatchOption result ((rest : List ℕ) → text.now ≡ prefix.now ++ rest → ⊥) (λ rest. text.now ≡ prefix.now ++ rest.now) }
 {
     text.strip_prefix(prefix)
 }

@@ -3,7 +3,7 @@ ghost use Rattle.texts.specs.Numbers.{IsCount, MayCount};
 
 /// The number from 1 to 9999 that the text writes in decimal digits without a leading zero; none where it writes none.
 pub fn counting_number(text: &[u8]) -> Option<u32>
-    ensures { MatchOption result ((n : ℕ) → IsCount text.now n → ⊥) (IsCount text.now) }
+    ensures value { MatchOption result ((n : ℕ) → IsCount text.now n → ⊥) (IsCount text.now) }
 {
     if !may_count(text) {
         return None;

@@ -6,4 +6,4 @@ pub loop-rest-preserved : goal.loop-rest-preserved
 loop-rest-preserved c = drops_blank c.loop-rest.rest.now (omega arith) (search rules) ∙ c.loop-rest.invariant
 
 pub returns-then-not-is_blank : goal.returns-then-not-is_blank
-returns-then-not-is_blank c = keeps_other c.loop-rest.rest.now (omega arith) (search rules) ∙ c.loop-rest.invariant
+returns-then-not-is_blank c = record { value = keeps_other c.loop-rest.rest.now (omega arith) (search rules) ∙ c.loop-rest.invariant }

@@ -6,7 +6,7 @@ use Rattle.texts.proofs.lines.next_line.Goals as goal
 
 pub returns-in-Some-clause-line : goal.returns-in-Some-clause-line
 returns-in-Some-clause-line c =
-    lines-cut c.args.text.now c.in-Some.line.now c.in-Some.rest.now c.in-Some.ensures ∙ ap (λ l. l ∷ lines c.in-Some.rest.now) (sym c.without_return.ensures)
+    lines-cut c.args.text.now c.in-Some.line.now c.in-Some.rest.now c.in-Some.ensures.value ∙ ap (λ l. l ∷ lines c.in-Some.rest.now) (sym c.without_return.ensures)
 
 pub returns-in-None-clause-line : goal.returns-in-None-clause-line
-returns-in-None-clause-line c = lines-last c.args.text.now (grind (arith, nat_tests)) c.in-None.ensures
+returns-in-None-clause-line c = lines-last c.args.text.now (grind (arith, nat_tests)) c.in-None.ensures.value

@@ -4,20 +4,22 @@ use Rattle.texts.proofs.Counting.{may_count, is_utf8, parsed, not_parsed}
 use Rattle.texts.proofs.numbers.counting_number.Goals as goal
 
 pub returns-then-not-may_count : goal.returns-then-not-may_count
-returns-then-not-may_count c = λ n h.
-    let t : IsTrue c.may_count.result = c.may_count.ensures.1 (may_count c.args.text.now n h) in
-    search rules
+returns-then-not-may_count c = record {
+  value = λ n h.
+      let t : IsTrue c.may_count.result = c.may_count.ensures.1 (may_count c.args.text.now n h) in
+      search rules;
+}
 
 pub returns-in_default : goal.returns-in_default
-returns-in_default c = λ n h. c.in_default.ensures.cases.0 (is_utf8 c.args.text.now n h)
+returns-in_default c = record { value = λ n h. c.in_default.ensures.cases.0 (is_utf8 c.args.text.now n h) }
 
 pub returns-in-Ok-parse : goal.returns-in-Ok-parse
 returns-in-Ok-parse c =
     let e : c.in-Ok.digits.now ≡ c.args.text.now = c.in-Ok.ensures.cases.0 in
     let m : MayCount c.args.text.now = c.may_count.ensures.0 (search rules) in
-    parsed c.args.text.now c.in-Ok-parse.number c.parse.result m (rw e at c.parse.ensures.value.0) c.in-Ok-parse.is
+    record { value = parsed c.args.text.now c.in-Ok-parse.number c.parse.result m (rw e at c.parse.ensures.value.0) c.in-Ok-parse.is }
 
 pub returns-in-Err : goal.returns-in-Err
-returns-in-Err c = λ n h.
+returns-in-Err c =
     let e : c.in-Ok.digits.now ≡ c.args.text.now = c.in-Ok.ensures.cases.0 in
-    not_parsed c.args.text.now n c.parse.result c.in-Err.field-0 (may_count c.args.text.now n h) (rw e at c.parse.ensures.value.0) c.in-Err.is h
+    record { value = λ n h. not_parsed c.args.text.now n c.parse.result c.in-Err.field-0 (may_count c.args.text.now n h) (rw e at c.parse.ensures.value.0) c.in-Err.is h }
