@@ -1,8 +1,9 @@
 #!/bin/sh
-# Writes a task and a correct proof of it: proof.sh LINES WIDTH SHAPE.
-# The proof takes two sentences of about WIDTH bytes out of their conjunction and joins them again, over and over, so
-# LINES is 1 more than a multiple of 3. SHAPE says what the two sentences are: `blocks`, conjunctions of sentences about
-# blocks; or `terms`, atomic sentences with as many names as fit, which have the most tokens a byte.
+# Writes a task and a correct proof of it: proof.sh LINES WIDTH SHAPE, with LINES lines at most.
+# `blocks` and `terms` take two sentences of about WIDTH bytes out of their conjunction and join them again, over and
+# over: conjunctions of sentences about blocks, or atomic sentences with as many names as fit, which have the most tokens a
+# byte. `nested` opens subproofs to depth 29, repeats line 1 in the innermost, and closes one after another by conditional
+# introduction, over and over; it takes no heed of WIDTH.
 exec awk -v lines="$1" -v width="$2" -v shape="${3:-blocks}" '
 function atom(letter,    text) {
     text = letter "(a"
@@ -14,18 +15,43 @@ function conjunction(first,    text) {
     while (length(text) + 14 < width) text = text " & Larger(b,c)"
     return text
 }
-BEGIN {
-    left = shape == "terms" ? atom("P") : conjunction("Cube(a)")
-    right = shape == "terms" ? atom("Q") : conjunction("Tet(b)")
-    both = shape == "terms" ? left " & " right : "(" left ") & (" right ")"
+function heading(premise, goal) {
     print "task 1"
-    print "premise " both
-    print "goal " both
+    print "premise " premise
+    print "goal " goal
     print "proof 1"
+}
+function bars(depth,    text) {
+    while (depth-- > 0) text = text "| "
+    return text
+}
+function conditional(level) {
+    return level > deepest ? "P" : level == deepest ? "Q $ P" : "Q $ (" conditional(level + 1) ")"
+}
+function nested(    line, level) {
+    deepest = 28
+    heading("P", conditional(1))
+    print "1 | P ; Premise"
+    for (line = 1; line + 2 * deepest + 1 <= lines; line += 2 * deepest + 1) {
+        for (level = 1; level <= deepest; level++) print line + level " " bars(level + 1) "Q ; Assume"
+        print line + deepest + 1 " " bars(deepest + 1) "P ; Reit: 1"
+        for (level = deepest; level >= 1; level--)
+            print line + 2 * deepest + 2 - level " " bars(level) conditional(level) " ; $ Intro: " \
+                line + level "-" line + 2 * deepest + 1 - level
+    }
+}
+function flat(left, right, both,    line) {
+    heading(both, both)
     print "1 | " both " ; Premise"
     for (line = 2; line + 2 <= lines; line += 3) {
         print line " | " left " ; & Elim: " line - 1
         print line + 1 " | " right " ; & Elim: " line - 1
         print line + 2 " | " both " ; & Intro: " line ", " line + 1
     }
+}
+BEGIN {
+    if (shape == "nested") nested()
+    else if (shape == "terms") flat(atom("P"), atom("Q"), atom("P") " & " atom("Q"))
+    else flat(conjunction("Cube(a)"), conjunction("Tet(b)"), \
+        "(" conjunction("Cube(a)") ") & (" conjunction("Tet(b)") ")")
 }'

@@ -1,4 +1,12 @@
 pub mod Lists
+pub mod Members
 pub mod Equations
 pub mod Scanning
+pub mod Repeated
+pub mod Building
 pub mod Laws
+pub mod Connectives
+pub mod Discharging
+pub mod Quantifiers
+pub mod Instancing
+pub mod Avoiding

@@ -2,7 +2,6 @@
 use Rattle.std.specs.Prelude.{Bool, not, List, [], ◌∷◌, ◌++◌, map, filter, Option, Some}
 use Rattle.std.specs.List.{list_any}
 use Rattle.fol_core.specs.declared.sent.Sent.{Sent, out-Sent}
-use Rattle.fol_core.specs.declared.sent.Sent.TheOpen.{Sent-F}
 use Rattle.fol_core.specs.declared.sent.Sent.TheOpen as f
 use Rattle.fol_core.specs.Word.{Word}
 use Rattle.fol_core.specs.Subst.{subst_name}

@@ -4,5 +4,8 @@ pub mod Trees
 pub mod Eigen
 pub mod Valid
 pub mod Derivable
-pub mod Accepted
+pub mod Scan
 pub mod Laws
+pub mod ConnectiveLaws
+pub mod QuantifierLaws
+pub mod Dropped

@@ -12,12 +12,12 @@ use Rattle.fol_core.specs.declared.sent.Sent.TheFolds.{ind-Sent, fold-roll-Sent,
 use Rattle.fol_core.specs.Word.{Word}
 use Rattle.fol_core.specs.Alike.{repl, repl_step, repl_term, pairwise, all_pairs}
 
--- The sentence is alike to itself.
-abbrev pub IsAlike : Sent → Type 0
-IsAlike p = repl [] [] p p ≡ true
+-- Whatever name is replaced by whatever other, none of its occurrences may be.
+abbrev IsAlike : Word → Word → Sent → Type 0
+IsAlike n m p = repl n m p p ≡ true
 
-abbrev Itself : Type 0
-Itself = (p : Sent) × IsAlike p
+abbrev Itself : Word → Word → Type 0
+Itself n m = (p : Sent) × IsAlike n m p
 
 both : (a b : Bool) → a ≡ true → b ≡ true → (a && b) ≡ true
 both a b e f = ap₂ ◌&&◌ e f
@@ -27,45 +27,49 @@ pub bytes_same : (xs : List ℕ) → bytes_eq xs xs ≡ true
 bytes_same [] = refl
 bytes_same (x ∷ xs) = both _ _ (eq-eqb x x refl) (bytes_same xs)
 
-pub term_alike : (t : Term) → repl_term [] [] t t ≡ true
-term_alike (Var x) = bytes_same x
-term_alike (Name n) = ap (λ b. b || (bytes_eq n [] && bytes_eq n [])) (bytes_same n)
+term_alike : (n m : Word) (t : Term) → repl_term n m t t ≡ true
+term_alike n m (Var x) = bytes_same x
+term_alike n m (Name k) = ap (λ b. b || (bytes_eq k n && bytes_eq k m)) (bytes_same k)
 
-terms_alike : (ts : List Term) → all_pairs (repl_term [] []) ts ts ≡ true
-terms_alike [] = refl
-terms_alike (t ∷ ts) = both _ _ (term_alike t) (terms_alike ts)
+terms_alike : (n m : Word) (ts : List Term) → all_pairs (repl_term n m) ts ts ≡ true
+terms_alike n m [] = refl
+terms_alike n m (t ∷ ts) = both _ _ (term_alike n m t) (terms_alike n m ts)
 
-parts_alike : (es : List Itself) → pairwise (map (repl [] []) (map (λ (e : Itself). e.0) es)) (map (λ (e : Itself). e.0) es) ≡ true
-parts_alike [] = refl
-parts_alike (e ∷ es) = both _ _ e.1 (parts_alike es)
+parts_alike : (n m : Word) (es : List (Itself n m)) → pairwise (map (repl n m) (map (λ (e : Itself n m). e.0) es)) (map (λ (e : Itself n m). e.0) es) ≡ true
+parts_alike n m [] = refl
+parts_alike n m (e ∷ es) = both _ _ e.1 (parts_alike n m es)
 
-abbrev bare : Sent-F Itself → Sent-F Sent
-bare = map-Sent Itself Sent (λ e. e.0)
+abbrev bare : (n m : Word) → Sent-F (Itself n m) → Sent-F Sent
+bare n m = map-Sent (Itself n m) Sent (λ e. e.0)
 
-step_alike : (y : Sent-F Itself) → repl_step [] [] (map-Sent Sent (Sent → Bool) (repl [] []) (bare y)) (bare y) ≡ true
-step_alike (f.Atom p ts) = both _ _ (bytes_same p) (terms_alike ts)
-step_alike (f.Eq a b) = both _ _ (term_alike a) (term_alike b)
-step_alike f.Bottom = refl
-step_alike (f.Not e) = e.1
-step_alike (f.And es) = parts_alike es
-step_alike (f.Or es) = parts_alike es
-step_alike (f.If d e) = both _ _ d.1 e.1
-step_alike (f.Iff d e) = both _ _ d.1 e.1
-step_alike (f.All v e) = both _ _ (bytes_same v) e.1
-step_alike (f.Ex v e) = both _ _ (bytes_same v) e.1
+step_alike : (n m : Word) (y : Sent-F (Itself n m)) → repl_step n m (map-Sent Sent (Sent → Bool) (repl n m) (bare n m y)) (bare n m y) ≡ true
+step_alike n m (f.Atom p ts) = both _ _ (bytes_same p) (terms_alike n m ts)
+step_alike n m (f.Eq a b) = both _ _ (term_alike n m a) (term_alike n m b)
+step_alike n m f.Bottom = refl
+step_alike n m (f.Not e) = e.1
+step_alike n m (f.And es) = parts_alike n m es
+step_alike n m (f.Or es) = parts_alike n m es
+step_alike n m (f.If d e) = both _ _ d.1 e.1
+step_alike n m (f.Iff d e) = both _ _ d.1 e.1
+step_alike n m (f.All v e) = both _ _ (bytes_same v) e.1
+step_alike n m (f.Ex v e) = both _ _ (bytes_same v) e.1
 
 out_roll : (m : Sent-F Sent) → out-Sent (roll-Sent m) ≡ m
 out_roll m = search (rules, the_lemmas)
 
-abbrev stepper : Sent-F (Sent → Bool) → Sent → Bool
-stepper x q = repl_step [] [] x (out-Sent q)
+-- A sentence comes from itself by replacing no occurrence.
+pub repl_refl : (n m : Word) (s : Sent) → repl n m s s ≡ true
+repl_refl n m = ind-Sent (IsAlike n m) (λ l y is.
+    subst (λ (w : Sent-F Sent). IsAlike n m (roll-Sent w)) is
+    (ap (λ (g : Sent → Bool). g (roll-Sent (bare n m y))) (fold-roll-Sent (Sent → Bool) (λ x q. repl_step n m x (out-Sent q)) (bare n m y))
+    ∙ ap (λ w. repl_step n m (map-Sent Sent (Sent → Bool) (repl n m) (bare n m y)) w) (out_roll (bare n m y)) ∙ step_alike n m y))
 
 -- Each sentence is alike to itself where no name is replaced.
-pub alike_refl : (s : Sent) → IsAlike s
-alike_refl = ind-Sent IsAlike (λ l y is.
-    subst (λ (m : Sent-F Sent). IsAlike (roll-Sent m)) is
-    (ap (λ (g : Sent → Bool). g (roll-Sent (bare y))) (fold-roll-Sent (Sent → Bool) stepper (bare y))
-    ∙ ap (λ m. repl_step [] [] (map-Sent Sent (Sent → Bool) (repl [] []) (bare y)) m) (out_roll (bare y)) ∙ step_alike y))
+pub alike_refl : (s : Sent) → repl [] [] s s ≡ true
+alike_refl = repl_refl [] []
+
+abbrev stepper : Sent-F (Sent → Bool) → Sent → Bool
+stepper x q = repl_step [] [] x (out-Sent q)
 
 or_cases : (a b : Bool) → (a || b) ≡ true → a ≡ true ⊎ b ≡ true
 or_cases true b h = inl refl

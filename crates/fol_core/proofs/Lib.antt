@@ -1,3 +1,12 @@
 pub mod Parts
 pub mod Forms
 pub mod Equality
+pub mod Closing
+pub mod Instances
+pub mod Forming
+pub mod Replacing
+pub mod Occurring
+pub mod Substituting
+pub mod Sizes
+pub mod Naming
+pub mod NamesAlone

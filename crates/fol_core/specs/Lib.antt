@@ -5,3 +5,5 @@ pub mod Bound
 pub mod Subst
 pub mod Alike
 pub mod Blocks
+pub mod Formed
+pub mod Naming

@@ -4,12 +4,12 @@ use sqlite_items::Boxed;
 use std::alloc::Global;
 use std::test::Fail;
 
-fn word(alloc: Global, text: &[u8]) -> Result<Ident, Fail> {
+pub(crate) fn word(alloc: Global, text: &[u8]) -> Result<Ident, Fail> {
     Ok(Ident::make(alloc, text)?.ok_or("no identifier")?)
 }
 
 /// A predicate of so many names.
-fn atom(alloc: Global, predicate: &[u8], terms: usize) -> Result<Sent, Fail> {
+pub(crate) fn atom(alloc: Global, predicate: &[u8], terms: usize) -> Result<Sent, Fail> {
     let mut names = Terms::new(alloc);
     for _ in 0..terms {
         names.add(Term::Name(word(alloc, b"a")?))?;
@@ -18,7 +18,7 @@ fn atom(alloc: Global, predicate: &[u8], terms: usize) -> Result<Sent, Fail> {
 }
 
 /// So many negations of the sentence.
-fn denied(alloc: Global, times: usize, inner: Sent) -> Result<Sent, Fail> {
+pub(crate) fn denied(alloc: Global, times: usize, inner: Sent) -> Result<Sent, Fail> {
     let mut whole = inner;
     for _ in 0..times {
         whole = Sent::Not(Boxed::new(alloc, whole)?);

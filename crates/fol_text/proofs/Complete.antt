@@ -1,139 +1,224 @@
 -- What is spelled is read: from a state that wants a part, the machine goes over the tokens of a part to the state that
 -- has this part, whatever follows.
-use Rattle.std.proofs.Common.{◌≡◌, ℕ, suc, ◌-◌, ◌==◌, true, false, arith, List, [], ◌∷◌, ◌++◌, Some, refl, ap, sym, ◌∙◌, subst, append_assoc}
+use Rattle.std.proofs.Common.{◌≡◌, ℕ, suc, ◌+◌, ◌-◌, nat_lt, true, false, arith, lt-ltb, List, [], ◌∷◌, ◌++◌, length, Some, Ok, refl, ap, sym, ◌∙◌, append_assoc}
 use Rattle.std.proofs.lemmas.List.{append-nil}
-use Rattle.std.proofs.lemmas.Bool.Decides.{nat_tests}
-use Rattle.fol_core.specs.Word.{Word, is_predicate}
+use Rattle.fol_core.specs.Word.{Word, is_predicate, is_variable}
 use Rattle.fol_core.specs.declared.sent.Term.{Term}
 use Rattle.fol_core.specs.declared.sent.Sent.{Sent}
-use Rattle.fol_core.specs.declared.sent.Sent.TheVariants.{Atom, And}
-use Rattle.fol_text.specs.Tokens.{Token, and_sign, open_paren, close_paren, comma, word}
-use Rattle.fol_text.specs.Grammar.{SpellsTerm, name, SpellsTerms, last_term, more_terms, Spells, one_part, conjunction, SpellsParts, last_part, more_parts, SpellsPart, letter, atom, group}
-use Rattle.fol_text.specs.declared.machine.Mode.TheVariants.{WantsPart, HasPredicate, WantsArgument, HasArgument, HasPart}
-use Rattle.fol_text.specs.declared.machine.Group.{Group}
-use Rattle.fol_text.specs.declared.machine.State.{State}
-use Rattle.fol_text.specs.Machine.{state, whole, go, begin}
+use Rattle.fol_core.specs.declared.sent.Sent.TheVariants.{Atom, Eq, Not, And, Or, If, Iff}
+use Rattle.fol_text.specs.declared.token.Token.{Token}
+use Rattle.fol_text.specs.declared.token.Token.TheVariants.{NotSign, AndSign, OrSign, IfSign, IffSign, AllSign, ExistsSign, Equals, Unequal, Open, Close, Comma, Identifier}
+use Rattle.fol_text.specs.declared.state.Quantifier.TheVariants.{Universal, Existential}
+use Rattle.fol_text.specs.declared.state.Prefix.{Prefix}
+use Rattle.fol_text.specs.declared.state.Prefix.TheVariants.{Negation, Quantified}
+use Rattle.fol_text.specs.declared.state.Relation.{Relation}
+use Rattle.fol_text.specs.declared.state.Relation.TheVariants.{Same, Different}
+use Rattle.fol_text.specs.declared.state.Begun.{Begun}
+use Rattle.fol_text.specs.declared.state.Begun.TheVariants.{Nothing, Conjunction, Disjunction, Conditional, Biconditional}
+use Rattle.fol_text.specs.declared.state.Mode.TheVariants.{WantsPart, HasPredicate, WantsArgument, HasArgument, HasLeft, WantsRight, HasPart}
+use Rattle.fol_text.specs.declared.state.Group.{Group}
+use Rattle.fol_text.specs.declared.state.State.{State}
+use Rattle.fol_text.specs.Grammar.{SpellsTerm, SpellsTerms, last_term, more_terms, Spells, one_part, conjunction, disjunction, conditional, biconditional, SpellsParts, last_part, more_parts, SpellsPart, letter, atom, equation, inequation, falsum, negation, universal, existential, group}
+use Rattle.fol_text.specs.Machine.{state, group_of, finished, conjoined, disjoined, whole, related, term_of, go, begin}
+use Rattle.fol_text.proofs.WordKinds.{term_found}
 
--- the group with this room and these parts
-abbrev within : ℕ → List Sent → Group
-within n ps = record { room = n; parts = ps }
+abbrev wants : ℕ → List Prefix → Begun → List Group → State
+wants n ps b o = state WantsPart (group_of n ps b) o
 
-abbrev wants : ℕ → List Sent → List Group → State
-wants n ps o = state WantsPart (within n ps) o
-
-abbrev has : ℕ → Sent → List Sent → List Group → State
-has n s ps o = state (HasPart s) (within n ps) o
+abbrev has : ℕ → Sent → Begun → List Group → State
+has n s b o = state (HasPart s) (group_of n [] b) o
 
 -- what follows is no argument list
-abbrev NoOpen : List Token → Type 0
+abbrev pub NoOpen : List Token → Type 0
 NoOpen [] = Unit {0}
-NoOpen (open_paren ∷ ks) = ⊥
+NoOpen (Open ∷ ks) = ⊥
 NoOpen (_ ∷ ks) = Unit {0}
 
-predicate_goes : (p : Word) → is_predicate p ≡ true → (h : Group) (o : List Group) (rest : List Token) → go (state WantsPart h o) (word p ∷ rest) ≡ go (state (HasPredicate p) h o) rest
+-- one token
+
+predicate_goes : (p : Word) → is_predicate p ≡ true → (h : Group) (o : List Group) (rest : List Token) → go (state WantsPart h o) (Identifier p ∷ rest) ≡ go (state (HasPredicate p) h o) rest
 predicate_goes p i h o rest = rw (i, go) refl
 
-letter_goes : (p : Word) (h : Group) (o : List Group) (rest : List Token) → NoOpen rest → go (state (HasPredicate p) h o) rest ≡ go (state (HasPart (Atom p [])) h o) rest
+letter_goes : (p : Word) (h : Group) (o : List Group) (rest : List Token) → NoOpen rest → go (state (HasPredicate p) h o) rest ≡ go (finished (Atom p []) h o) rest
 letter_goes p h [] [] n = refl
 letter_goes p h (g ∷ o) [] n = refl
-letter_goes p h o (open_paren ∷ ks) n = absurd n
+letter_goes p h o (Open ∷ ks) n = absurd n
 letter_goes p h o (k ∷ ks) n = refl
 
-term_goes : {k : Token} {t : Term} → SpellsTerm k t → (p : Word) (us : List Term) (h : Group) (o : List Group) (rest : List Token) → go (state (WantsArgument p us) h o) (k ∷ rest) ≡ go (state (HasArgument p (us ++ t ∷ [])) h o) rest
-term_goes (name n i) p us h o rest = rw (i, go) refl
+left_goes_by : (w : Word) (t : Term) → is_predicate w ≡ false → term_of w ≡ Some t → (h : Group) (o : List Group) (rest : List Token) → go (state WantsPart h o) (Identifier w ∷ rest) ≡ go (state (HasLeft t) h o) rest
+left_goes_by w t i e h o rest = rw (i, e, go) refl
 
-terms_read : {ks : List Token} {ts : List Term} → SpellsTerms ks ts → (p : Word) (us : List Term) (h : Group) (o : List Group) (rest : List Token) → go (state (WantsArgument p us) h o) (ks ++ close_paren ∷ rest) ≡ go (state (HasPart (Atom p (us ++ ts))) h o) rest
-terms_read (last_term k t i) p us h o rest = term_goes i p us h o (close_paren ∷ rest)
+left_goes : {k : Token} {t : Term} → SpellsTerm k t → (h : Group) (o : List Group) (rest : List Token) → go (state WantsPart h o) (k ∷ rest) ≡ go (state (HasLeft t) h o) rest
+left_goes {k} {t} i h o rest =
+    let f = term_found i in
+    ap (λ (j : Token). go (state WantsPart h o) (j ∷ rest)) f.is ∙ left_goes_by f.spelling t f.no_predicate f.found h o rest
+
+right_goes_by : (w : Word) (b : Term) → term_of w ≡ Some b → (a : Term) (r : Relation) (h : Group) (o : List Group) (rest : List Token) → go (state (WantsRight a r) h o) (Identifier w ∷ rest) ≡ go (finished (related a r b) h o) rest
+right_goes_by w b e a r h o rest = rw (e, go) refl
+
+right_goes : {k : Token} {b : Term} → SpellsTerm k b → (a : Term) (r : Relation) (h : Group) (o : List Group) (rest : List Token) → go (state (WantsRight a r) h o) (k ∷ rest) ≡ go (finished (related a r b) h o) rest
+right_goes {k} {b} i a r h o rest =
+    let f = term_found i in
+    ap (λ (j : Token). go (state (WantsRight a r) h o) (j ∷ rest)) f.is ∙ right_goes_by f.spelling b f.found a r h o rest
+
+argument_goes_by : (w : Word) (t : Term) → term_of w ≡ Some t → (p : Word) (us : List Term) (h : Group) (o : List Group) (rest : List Token) → go (state (WantsArgument p us) h o) (Identifier w ∷ rest) ≡ go (state (HasArgument p (us ++ t ∷ [])) h o) rest
+argument_goes_by w t e p us h o rest = rw (e, go) refl
+
+argument_goes : {k : Token} {t : Term} → SpellsTerm k t → (p : Word) (us : List Term) (h : Group) (o : List Group) (rest : List Token) → go (state (WantsArgument p us) h o) (k ∷ rest) ≡ go (state (HasArgument p (us ++ t ∷ [])) h o) rest
+argument_goes {k} {t} i p us h o rest =
+    let f = term_found i in
+    ap (λ (j : Token). go (state (WantsArgument p us) h o) (j ∷ rest)) f.is ∙ argument_goes_by f.spelling t f.found p us h o rest
+
+-- atomic sentences
+
+terms_read : {ks : List Token} {ts : List Term} → SpellsTerms ks ts → (p : Word) (us : List Term) (h : Group) (o : List Group) (rest : List Token) → go (state (WantsArgument p us) h o) (ks ++ Close ∷ rest) ≡ go (finished (Atom p (us ++ ts)) h o) rest
+terms_read (last_term k t i) p us h o rest = argument_goes i p us h o (Close ∷ rest)
 terms_read (more_terms k t ks ts i q) p us h o rest =
-    term_goes i p us h o (comma ∷ (ks ++ close_paren ∷ rest)) ∙ terms_read q p (us ++ t ∷ []) h o rest ∙ ap (λ (vs : List Term). go (state (HasPart (Atom p vs)) h o) rest) (append_assoc us (t ∷ []) ts)
+    argument_goes i p us h o (Comma ∷ (ks ++ Close ∷ rest)) ∙ terms_read q p (us ++ t ∷ []) h o rest ∙ ap (λ (vs : List Term). go (finished (Atom p vs) h o) rest) (append_assoc us (t ∷ []) ts)
 
-atom_read : (p : Word) (ks : List Token) (ts : List Term) → is_predicate p ≡ true → SpellsTerms ks ts → (h : Group) (o : List Group) (rest : List Token) → go (state WantsPart h o) ((word p ∷ open_paren ∷ ks ++ close_paren ∷ []) ++ rest) ≡ go (state (HasPart (Atom p ts)) h o) rest
+atom_read : (p : Word) (ks : List Token) (ts : List Term) → is_predicate p ≡ true → SpellsTerms ks ts → (h : Group) (o : List Group) (rest : List Token) → go (state WantsPart h o) ((Identifier p ∷ Open ∷ ks ++ Close ∷ []) ++ rest) ≡ go (finished (Atom p ts) h o) rest
 atom_read p ks ts i q h o rest =
-    predicate_goes p i h o (open_paren ∷ ((ks ++ close_paren ∷ []) ++ rest)) ∙ ap (λ (js : List Token). go (state (WantsArgument p []) h o) js) (append_assoc ks (close_paren ∷ []) rest) ∙ terms_read q p [] h o rest
+    predicate_goes p i h o (Open ∷ ((ks ++ Close ∷ []) ++ rest)) ∙ ap (λ (js : List Token). go (state (WantsArgument p []) h o) js) (append_assoc ks (Close ∷ []) rest) ∙ terms_read q p [] h o rest
 
-one_less : (n : ℕ) → suc n - 1 ≡ n
-one_less n = omega arith
+equation_read : {k j : Token} {a b : Term} → SpellsTerm k a → SpellsTerm j b → (h : Group) (o : List Group) (rest : List Token) → go (state WantsPart h o) (k ∷ Equals ∷ j ∷ rest) ≡ go (finished (Eq a b) h o) rest
+equation_read {k} {j} {a} {b} x y h o rest = left_goes x h o (Equals ∷ j ∷ rest) ∙ right_goes y a Same h o rest
 
-room_left : (n : ℕ) → (suc n == 0) ≡ false
-room_left n = grind (arith, nat_tests)
+inequation_read : {k j : Token} {a b : Term} → SpellsTerm k a → SpellsTerm j b → (h : Group) (o : List Group) (rest : List Token) → go (state WantsPart h o) (k ∷ Unequal ∷ j ∷ rest) ≡ go (finished (Not (Eq a b)) h o) rest
+inequation_read {k} {j} {a} {b} x y h o rest = left_goes x h o (Unequal ∷ j ∷ rest) ∙ right_goes y a Different h o rest
 
-opens : (n : ℕ) (ps : List Sent) (o : List Group) (rest : List Token) → go (wants (suc n) ps o) (open_paren ∷ rest) ≡ go (wants n [] (within (suc n) ps ∷ o)) rest
-opens n ps o rest = rw (room_left n, go) (ap (λ (m : ℕ). go (wants m [] (within (suc n) ps ∷ o)) rest) (one_less n))
+-- what takes one of the room
 
-sign_goes : (k : Token) → k ≡ and_sign → (n : ℕ) (s : Sent) (ps : List Sent) (o : List Group) (rest : List Token) → go (has n s ps o) (k ∷ rest) ≡ go (wants n (ps ++ s ∷ []) o) rest
-sign_goes k e n s ps o rest = subst (λ (j : Token). go (has n s ps o) (j ∷ rest) ≡ go (wants n (ps ++ s ∷ []) o) rest) (sym e) refl
+room_left : (r m l : ℕ) → r ≡ suc m + l → nat_lt l r ≡ true
+room_left r m l e = lt-ltb l r (omega arith)
 
-sign_no_open : (k : Token) → k ≡ and_sign → (rest : List Token) → NoOpen (k ∷ rest)
-sign_no_open k e rest = subst (λ (j : Token). NoOpen (j ∷ rest)) (sym e) tt
+room_inside : (r m l : ℕ) → r ≡ suc m + l → r - l - 1 ≡ m
+room_inside r m l e = omega arith
+
+one_more : (r m l : ℕ) → r ≡ suc m + l → r ≡ m + suc l
+one_more r m l e = omega arith
+
+negation_goes : (r m : ℕ) (ps : List Prefix) (b : Begun) (o : List Group) (rest : List Token) → r ≡ suc m + length ps → go (wants r ps b o) (NotSign ∷ rest) ≡ go (wants r (Negation ∷ ps) b o) rest
+negation_goes r m ps b o rest e = rw (room_left r m (length ps) e, go) refl
+
+universal_goes : (x : Word) (r m : ℕ) (ps : List Prefix) (b : Begun) (o : List Group) (rest : List Token) → is_variable x ≡ true → r ≡ suc m + length ps → go (wants r ps b o) (AllSign ∷ Identifier x ∷ rest) ≡ go (wants r (Quantified Universal x ∷ ps) b o) rest
+universal_goes x r m ps b o rest v e = rw (room_left r m (length ps) e, go, v) refl
+
+existential_goes : (x : Word) (r m : ℕ) (ps : List Prefix) (b : Begun) (o : List Group) (rest : List Token) → is_variable x ≡ true → r ≡ suc m + length ps → go (wants r ps b o) (ExistsSign ∷ Identifier x ∷ rest) ≡ go (wants r (Quantified Existential x ∷ ps) b o) rest
+existential_goes x r m ps b o rest v e = rw (room_left r m (length ps) e, go, v) refl
+
+opens : (r m : ℕ) (ps : List Prefix) (b : Begun) (o : List Group) (rest : List Token) → r ≡ suc m + length ps → go (wants r ps b o) (Open ∷ rest) ≡ go (wants m [] Nothing (group_of r ps b ∷ o)) rest
+opens r m ps b o rest e = rw (room_left r m (length ps) e, go) (ap (λ (n : ℕ). go (wants n [] Nothing (group_of r ps b ∷ o)) rest) (room_inside r m (length ps) e))
+
+-- the signs of a chain
+
+record Chains (k : Token) (c : List Sent → Begun) : Type 0 where
+  goes : (n : ℕ) (s : Sent) (ps : List Sent) (o : List Group) (rest : List Token) → go (has n s (c ps) o) (k ∷ rest) ≡ go (wants n [] (c (ps ++ s ∷ [])) o) rest
+  no_open : (rest : List Token) → NoOpen (k ∷ rest)
+
+and_chains : Chains AndSign Conjunction
+and_chains = record { goes = λ n s ps o rest. refl; no_open = λ rest. tt }
+
+or_chains : Chains OrSign Disjunction
+or_chains = record { goes = λ n s ps o rest. refl; no_open = λ rest. tt }
 
 -- a sentence is read up to its last part
 record Reached (n : ℕ) (s : Sent) (o : List Group) (ks rest : List Token) : Type 0 where
-  parts : List Sent
+  begun : Begun
   last : Sent
-  is_whole : whole parts last ≡ s
-  goes : go (wants n [] o) (ks ++ rest) ≡ go (has n last parts o) rest
+  is_whole : whole begun last ≡ s
+  goes : go (wants n [] Nothing o) (ks ++ rest) ≡ go (has n last begun o) rest
 
 -- several parts are read up to the last one
-record ReachedLast (n : ℕ) (ps ss : List Sent) (o : List Group) (ks rest : List Token) : Type 0 where
+record ReachedLast (c : List Sent → Begun) (n : ℕ) (ps ss : List Sent) (o : List Group) (ks rest : List Token) : Type 0 where
   front : List Sent
   last : Sent
   is_all : front ++ last ∷ [] ≡ ss
-  goes : go (wants n ps o) (ks ++ rest) ≡ go (has n last (ps ++ front) o) rest
+  goes : go (wants n [] (c ps) o) (ks ++ rest) ≡ go (has n last (c (ps ++ front)) o) rest
 
-whole_more : (s : Sent) (front : List Sent) (last : Sent) (ss : List Sent) → front ++ last ∷ [] ≡ ss → whole (s ∷ front) last ≡ And (s ∷ ss)
-unfolding whole
-whole_more s front last ss e = ap (λ (qs : List Sent). And (s ∷ qs)) e
+conjoined_more : (s : Sent) (front : List Sent) (last : Sent) (ss : List Sent) → front ++ last ∷ [] ≡ ss → conjoined (s ∷ front) last ≡ And (s ∷ ss)
+unfolding conjoined
+conjoined_more s front last ss e = ap (λ (qs : List Sent). And (s ∷ qs)) e
 
-group_read : (n : ℕ) (ks : List Token) (s : Sent) (ps : List Sent) (o : List Group) (rest : List Token) → Reached n s (within (suc n) ps ∷ o) ks (close_paren ∷ rest) → go (wants (suc n) ps o) ((open_paren ∷ ks ++ close_paren ∷ []) ++ rest) ≡ go (has (suc n) s ps o) rest
-group_read n ks s ps o rest r =
-    opens n ps o ((ks ++ close_paren ∷ []) ++ rest)
-    ∙ ap (λ (js : List Token). go (wants n [] (within (suc n) ps ∷ o)) js) (append_assoc ks (close_paren ∷ []) rest)
-    ∙ r.goes ∙ ap (λ (u : Sent). go (has (suc n) u ps o) rest) r.is_whole
+disjoined_more : (s : Sent) (front : List Sent) (last : Sent) (ss : List Sent) → front ++ last ∷ [] ≡ ss → disjoined (s ∷ front) last ≡ Or (s ∷ ss)
+unfolding disjoined
+disjoined_more s front last ss e = ap (λ (qs : List Sent). Or (s ∷ qs)) e
 
-more_read : (k : Token) → k ≡ and_sign → (n : ℕ) (ks js : List Token) (s : Sent) (ss ps : List Sent) (o : List Group) (rest : List Token)
-    → go (wants n ps o) (ks ++ (k ∷ (js ++ rest))) ≡ go (has n s ps o) (k ∷ (js ++ rest))
-    → ReachedLast n (ps ++ s ∷ []) ss o js rest → ReachedLast n ps (s ∷ ss) o (ks ++ k ∷ js) rest
-more_read k e n ks js s ss ps o rest first r = record {
-  front = s ∷ r.front;
-  last = r.last;
-  is_all = ap (λ (qs : List Sent). s ∷ qs) r.is_all;
-  goes = ap (λ (ls : List Token). go (wants n ps o) ls) (append_assoc ks (k ∷ js) rest) ∙ first ∙ sign_goes k e n s ps o (js ++ rest) ∙ r.goes
-      ∙ ap (λ (qs : List Sent). go (has n r.last qs o) rest) (append_assoc ps (s ∷ []) r.front);
+group_read : (r n : ℕ) (ks : List Token) (s : Sent) (ps : List Prefix) (b : Begun) (o : List Group) (rest : List Token) → r ≡ suc n + length ps → Reached n s (group_of r ps b ∷ o) ks (Close ∷ rest)
+    → go (wants r ps b o) ((Open ∷ ks ++ Close ∷ []) ++ rest) ≡ go (finished s (group_of r ps b) o) rest
+group_read r n ks s ps b o rest e d =
+    opens r n ps b o ((ks ++ Close ∷ []) ++ rest) e
+    ∙ ap (λ (js : List Token). go (wants n [] Nothing (group_of r ps b ∷ o)) js) (append_assoc ks (Close ∷ []) rest)
+    ∙ d.goes ∙ ap (λ (u : Sent). go (finished u (group_of r ps b) o) rest) d.is_whole
+
+more_read : {k : Token} {c : List Sent → Begun} → Chains k c → (n : ℕ) (ks js : List Token) (s : Sent) (ss ps : List Sent) (o : List Group) (rest : List Token)
+    → go (wants n [] (c ps) o) (ks ++ (k ∷ (js ++ rest))) ≡ go (has n s (c ps) o) (k ∷ (js ++ rest))
+    → ReachedLast c n (ps ++ s ∷ []) ss o js rest → ReachedLast c n ps (s ∷ ss) o (ks ++ k ∷ js) rest
+more_read {k} {c} h n ks js s ss ps o rest first d = record {
+  front = s ∷ d.front;
+  last = d.last;
+  is_all = ap (λ (qs : List Sent). s ∷ qs) d.is_all;
+  goes = ap (λ (ls : List Token). go (wants n [] (c ps) o) ls) (append_assoc ks (k ∷ js) rest) ∙ first ∙ h.goes n s ps o (js ++ rest) ∙ d.goes
+      ∙ ap (λ (qs : List Sent). go (has n d.last (c qs) o) rest) (append_assoc ps (s ∷ []) d.front);
 }
 
-chain_read : (n : ℕ) (ks js : List Token) (s : Sent) (ss : List Sent) (o : List Group) (rest : List Token)
-    → go (wants n [] o) (ks ++ (and_sign ∷ (js ++ rest))) ≡ go (has n s [] o) (and_sign ∷ (js ++ rest))
-    → ReachedLast n (s ∷ []) ss o js rest → Reached n (And (s ∷ ss)) o (ks ++ and_sign ∷ js) rest
-chain_read n ks js s ss o rest first r = record {
-  parts = s ∷ r.front;
-  last = r.last;
-  is_whole = whole_more s r.front r.last ss r.is_all;
-  goes = ap (λ (ls : List Token). go (wants n [] o) ls) (append_assoc ks (and_sign ∷ js) rest) ∙ first ∙ r.goes;
+-- a chain, or a conditional, is read: its first part, its sign, and what follows
+joined_read : (n : ℕ) (k : Token) (b : Begun) (ks js : List Token) (s last whole_of : Sent) (end : Begun) (o : List Group) (rest : List Token)
+    → whole end last ≡ whole_of
+    → go (wants n [] Nothing o) (ks ++ (k ∷ (js ++ rest))) ≡ go (has n s Nothing o) (k ∷ (js ++ rest))
+    → go (has n s Nothing o) (k ∷ (js ++ rest)) ≡ go (wants n [] b o) (js ++ rest)
+    → go (wants n [] b o) (js ++ rest) ≡ go (has n last end o) rest
+    → Reached n whole_of o (ks ++ k ∷ js) rest
+joined_read n k b ks js s last whole_of end o rest e first sign others = record {
+  begun = end;
+  last = last;
+  is_whole = e;
+  goes = ap (λ (ls : List Token). go (wants n [] Nothing o) ls) (append_assoc ks (k ∷ js) rest) ∙ first ∙ sign ∙ others;
 }
 
-lone_read : (n : ℕ) (ks : List Token) (s : Sent) (o : List Group) (rest : List Token) → go (wants n [] o) (ks ++ rest) ≡ go (has n s [] o) rest → Reached n s o ks rest
-unfolding whole
-lone_read n ks s o rest e = record { parts = []; last = s; is_whole = refl; goes = e }
+no_prefix : (n : ℕ) → n ≡ n + 0
+no_prefix n = omega arith
 
 mutual
-  part_read : {n : ℕ} {ks : List Token} {s : Sent} → SpellsPart n ks s → (ps : List Sent) (o : List Group) (rest : List Token) → NoOpen rest → go (wants n ps o) (ks ++ rest) ≡ go (has n s ps o) rest
-  part_read (letter n p i) ps o rest h = predicate_goes p i (within n ps) o rest ∙ letter_goes p (within n ps) o rest h
-  part_read (atom n p ks ts i q) ps o rest h = atom_read p ks ts i q (within n ps) o rest
-  part_read (group n ks s q) ps o rest h = group_read n ks s ps o rest (sentence_read q (within (suc n) ps ∷ o) (close_paren ∷ rest) tt)
+  part_read : {m : ℕ} {ks : List Token} {s : Sent} → SpellsPart m ks s → (r : ℕ) (ps : List Prefix) (b : Begun) (o : List Group) (rest : List Token) → r ≡ m + length ps → NoOpen rest
+      → go (wants r ps b o) (ks ++ rest) ≡ go (finished s (group_of r ps b) o) rest
+  part_read (letter m p i) r ps b o rest e h = predicate_goes p i (group_of r ps b) o rest ∙ letter_goes p (group_of r ps b) o rest h
+  part_read (atom m p ks ts i q) r ps b o rest e h = atom_read p ks ts i q (group_of r ps b) o rest
+  part_read (equation m k j t u x y) r ps b o rest e h = equation_read x y (group_of r ps b) o rest
+  part_read (inequation m k j t u x y) r ps b o rest e h = inequation_read x y (group_of r ps b) o rest
+  part_read (falsum m) r ps b o rest e h = refl
+  part_read (negation m ks s q) r ps b o rest e h =
+      negation_goes r m ps b o (ks ++ rest) e ∙ part_read q r (Negation ∷ ps) b o rest (one_more r m (length ps) e) h
+  part_read (universal m x ks s v q) r ps b o rest e h =
+      universal_goes x r m ps b o (ks ++ rest) v e ∙ part_read q r (Quantified Universal x ∷ ps) b o rest (one_more r m (length ps) e) h
+  part_read (existential m x ks s v q) r ps b o rest e h =
+      existential_goes x r m ps b o (ks ++ rest) v e ∙ part_read q r (Quantified Existential x ∷ ps) b o rest (one_more r m (length ps) e) h
+  part_read (group m ks s q) r ps b o rest e h = group_read r m ks s ps b o rest e (sentence_read q (group_of r ps b ∷ o) (Close ∷ rest) tt)
 
-  parts_read : {k : Token} {n : ℕ} {ks : List Token} {ss : List Sent} → SpellsParts k n ks ss → k ≡ and_sign → (ps : List Sent) (o : List Group) (rest : List Token) → NoOpen rest → ReachedLast n ps ss o ks rest
-  parts_read (last_part k n ks s q) e ps o rest h =
-      record { front = []; last = s; is_all = refl; goes = part_read q ps o rest h ∙ ap (λ (qs : List Sent). go (has n s qs o) rest) (sym (append-nil ps)) }
-  parts_read (more_parts k n ks js s ss q r) e ps o rest h =
-      more_read k e n ks js s ss ps o rest (part_read q ps o (k ∷ (js ++ rest)) (sign_no_open k e (js ++ rest))) (parts_read r e (ps ++ s ∷ []) o rest h)
+  parts_read : {k : Token} {n : ℕ} {ks : List Token} {ss : List Sent} → SpellsParts k n ks ss → (c : List Sent → Begun) → Chains k c → (ps : List Sent) (o : List Group) (rest : List Token) → NoOpen rest → ReachedLast c n ps ss o ks rest
+  parts_read (last_part k n ks s q) c x ps o rest h =
+      record { front = []; last = s; is_all = refl; goes = part_read q n [] (c ps) o rest (no_prefix n) h ∙ ap (λ (qs : List Sent). go (has n s (c qs) o) rest) (sym (append-nil ps)) }
+  parts_read (more_parts k n ks js s ss q d) c x ps o rest h =
+      more_read x n ks js s ss ps o rest (part_read q n [] (c ps) o (k ∷ (js ++ rest)) (no_prefix n) (x.no_open (js ++ rest))) (parts_read d c x (ps ++ s ∷ []) o rest h)
 
   sentence_read : {n : ℕ} {ks : List Token} {s : Sent} → Spells n ks s → (o : List Group) (rest : List Token) → NoOpen rest → Reached n s o ks rest
-  sentence_read (one_part n ks s q) o rest h = lone_read n ks s o rest (part_read q [] o rest h)
-  sentence_read (conjunction n ks js s ss q r) o rest h =
-      chain_read n ks js s ss o rest (part_read q [] o (and_sign ∷ (js ++ rest)) tt) (parts_read r refl (s ∷ []) o rest h)
+  sentence_read (one_part n ks s q) o rest h = record { begun = Nothing; last = s; is_whole = refl; goes = part_read q n [] Nothing o rest (no_prefix n) h }
+  sentence_read (conjunction n ks js s ss q d) o rest h =
+      let l = parts_read d Conjunction and_chains (s ∷ []) o rest h in
+      joined_read n AndSign (Conjunction (s ∷ [])) ks js s l.last (And (s ∷ ss)) (Conjunction (s ∷ l.front)) o rest (conjoined_more s l.front l.last ss l.is_all)
+      (part_read q n [] Nothing o (AndSign ∷ (js ++ rest)) (no_prefix n) tt) refl l.goes
+  sentence_read (disjunction n ks js s ss q d) o rest h =
+      let l = parts_read d Disjunction or_chains (s ∷ []) o rest h in
+      joined_read n OrSign (Disjunction (s ∷ [])) ks js s l.last (Or (s ∷ ss)) (Disjunction (s ∷ l.front)) o rest (disjoined_more s l.front l.last ss l.is_all)
+      (part_read q n [] Nothing o (OrSign ∷ (js ++ rest)) (no_prefix n) tt) refl l.goes
+  sentence_read (conditional n ks js s t q d) o rest h =
+      joined_read n IfSign (Conditional s) ks js s t (If s t) (Conditional s) o rest refl
+      (part_read q n [] Nothing o (IfSign ∷ (js ++ rest)) (no_prefix n) tt) refl (part_read d n [] (Conditional s) o rest (no_prefix n) h)
+  sentence_read (biconditional n ks js s t q d) o rest h =
+      joined_read n IffSign (Biconditional s) ks js s t (Iff s t) (Biconditional s) o rest refl
+      (part_read q n [] Nothing o (IffSign ∷ (js ++ rest)) (no_prefix n) tt) refl (part_read d n [] (Biconditional s) o rest (no_prefix n) h)
 
 -- the tokens of a sentence are read as this sentence
-pub spelled_is_read : (ks : List Token) (s : Sent) → Spells 120 ks s → go begin ks ≡ Some s
-spelled_is_read ks s q =
-    let r = sentence_read q [] [] tt in
-    ap (λ (js : List Token). go begin js) (sym (append-nil ks)) ∙ r.goes ∙ ap (λ (u : Sent). Some u) r.is_whole
+pub spelled_is_read : (n : ℕ) (ks : List Token) (s : Sent) → Spells n ks s → go (begin n) ks ≡ Ok s
+spelled_is_read n ks s q =
+    let d = sentence_read q [] [] tt in
+    ap (λ (js : List Token). go (begin n) js) (sym (append-nil ks)) ∙ d.goes ∙ ap (λ (u : Sent). Ok u) d.is_whole

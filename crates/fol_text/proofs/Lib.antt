@@ -1,6 +1,27 @@
 mod Wholes
+pub mod WordKinds
+mod Spelling
 mod Complete
+mod Built
 mod Sound
+mod Finishing
+mod Raising
+mod Endings
+mod Stopping
 mod Lexing
-mod Reading
-pub mod SmallTexts
+mod TokensOnce
+mod Lexed
+mod MarkLaws
+mod Counting
+pub mod Reading
+mod Steps
+pub mod PrintLaws
+mod Written
+mod Respelled
+pub mod ReadBack
+mod Fitness
+pub mod Refused
+mod BadOnce
+pub mod OneFault
+mod Answering
+mod SomeAnswer

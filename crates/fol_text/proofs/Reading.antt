@@ -1,156 +1,124 @@
--- Reading a text from its front: what the state and the bytes that are left say of the whole text, step by step.
-use Rattle.std.proofs.Common.{◌≡◌, ◌≢◌, ℕ, suc, ◌==◌, ◌<◌, arith, length, if◌then◌else◌, Bool, true, false, List, [], ◌∷◌, ◌++◌, Option, Some, None, Result, Ok, Err, refl, ap, sym, ◌∙◌, subst, append_assoc}
-use Rattle.std.proofs.lemmas.List.{append-nil}
+-- What the reader's answers say of the text: the laws that its contracts rest on.
+use Rattle.std.proofs.Common.{◌≡◌, ℕ, ◌+◌, ◌<◌, ◌≤◌, List, [], ◌∷◌, ◌++◌, ◌⊎◌, inl, inr, length, arith, take, drop, get_or, Result, Ok, Err, refl, ap, sym, ◌∙◌, subst, append_assoc}
+use Rattle.std.proofs.lemmas.List.{take-append-drop, take_all, take_more}
+use Rattle.std.specs.Prelude.{IfOk, IfErr}
+use Rattle.fol_core.proofs.Parts.{map_more}
 use Rattle.fol_core.specs.declared.sent.Sent.{Sent}
-use Rattle.fol_text.specs.Tokens.{Token, AreTokens, at_end, blank}
-use Rattle.texts.specs.Blanks.{is_blank}
-use Rattle.fol_text.specs.Grammar.{Spells}
-use Rattle.fol_text.specs.declared.machine.State.{State}
-use Rattle.fol_text.specs.Machine.{first_token, step, ended, begin, go, onward, turn, Gives, Refuses, itself}
 use Rattle.fol_text.specs.declared.fault.ReadFault.{ReadFault}
-use Rattle.fol_text.specs.declared.fault.ReadFault.TheVariants.{NotYet, Memory}
-use Rattle.std.specs.Result.{IfOk}
-use Rattle.std.proofs.lemmas.Bool.Decides.{nat_tests}
+use Rattle.fol_text.specs.declared.fault.ReadFault.TheVariants as read
+use Rattle.fol_text.specs.declared.fault.Refusal.{Refusal}
+use Rattle.fol_text.specs.declared.fault.Refusal.TheVariants.{Ambiguous, Unexpected, TooDeep, Memory}
+use Rattle.fol_text.specs.declared.token.Token.{Token}
+use Rattle.fol_text.specs.declared.token.Placed.{Placed}
+use Rattle.fol_text.specs.declared.state.Mode.{Mode}
+use Rattle.fol_text.specs.declared.state.Mode.TheVariants.{WantsPart, WantsVariable, HasPredicate, WantsArgument, HasArgument, HasLeft, WantsRight, HasPart}
+use Rattle.fol_text.specs.declared.state.Group.{Group}
+use Rattle.fol_text.specs.declared.state.State.{State}
+use Rattle.fol_text.specs.Tokens.{tokens_of, AreTokens}
+use Rattle.fol_text.specs.Grammar.{Spells}
+use Rattle.fol_text.specs.Readable.{SpellsText, IsReadable}
+use Rattle.fol_text.specs.Refusals.{IsStopped, ambiguous, unexpected, too_deep, ends_early}
+use Rattle.fol_text.specs.Machine.{GivesAt, step, ended, ended_in, begin, go, at_place}
 use Rattle.fol_text.proofs.Complete.{spelled_is_read}
-use Rattle.fol_text.proofs.Sound.{Built, begin_built, step_built, ended_spells}
-use Rattle.fol_text.proofs.Lexing.{blank_gone, first_of, same_first, end_of, token_sound, token_shorter, some_same}
+use Rattle.fol_text.proofs.Sound.{ended_spells}
+use Rattle.fol_text.proofs.Finishing.{reached}
+use Rattle.fol_text.proofs.Stopping.{Leads, leads_on, leads_begins, unexpected_begins_none, ambiguous_begins_none, unexpected_joins, ambiguous_is, deep_begins, deep_begins_none, early_spells_none}
+use Rattle.fol_text.proofs.Raising.{much_wider}
+use Rattle.fol_text.proofs.TokensOnce.{tokens_once}
 
--- The state stands for the tokens of the bytes so far, and whatever the text spells is read from the rest.
-pub record Reading (text : List ℕ) (st : State) (rest : List ℕ) : Type 0 where
-  pub front : List Token
-  pub built : Built st front
-  pub sound : (ks : List Token) → AreTokens rest ks → AreTokens text (front ++ ks)
-  pub exact : (ks : List Token) → (s : Sent) → AreTokens text ks → Spells 120 ks s → (js : List Token) × (AreTokens rest js × (go st js ≡ Some s))
+-- the tokens up to one of them
 
-pub reading_begins : (text : List ℕ) → Reading text begin text
-reading_begins text = record { front = []; built = begin_built; sound = λ ks t. t; exact = λ ks s t q. (ks, (t, spelled_is_read ks s q)) }
+more_tokens : (ks : List Placed) (i : ℕ) (k : Placed) → i < length ks → k ≡ get_or ks i k → tokens_of (take (i + 1) ks) ≡ tokens_of (take i ks) ++ k.token ∷ []
+more_tokens ks i k h e = map_more (λ (x : Placed). x.token) ks i k h e
 
-pub past_blank : (text : List ℕ) (st : State) (c : ℕ) (cs : List ℕ) → Reading text st (c ∷ cs) → is_blank c ≡ true → Reading text st cs
-past_blank text st c cs r i = record {
-  front = r.front;
-  built = r.built;
-  sound = λ ks t. r.sound ks (blank c cs ks i t);
-  exact = λ ks s t q. let (js, (u, e)) = r.exact ks s t q in (js, (blank_gone u c cs refl i, e));
-}
+split_at : (ks : List Placed) (i : ℕ) (k : Placed) → i < length ks → k ≡ get_or ks i k → ks ≡ take i ks ++ k ∷ drop (i + 1) ks
+split_at ks i k h e =
+    sym (take-append-drop (i + 1) ks)
+    ∙ ap (λ (js : List Placed). js ++ drop (i + 1) ks) (take_more ks i k h ∙ ap (λ (x : Placed). take i ks ++ x ∷ []) (sym e))
+    ∙ append_assoc (take i ks) (k ∷ []) (drop (i + 1) ks)
 
-goes_by : (st next : State) (k : Token) (ks : List Token) → step st k ≡ Some next → go st (k ∷ ks) ≡ go next ks
-goes_by st next k ks e = ap (λ (o : Option State). elim o as (λ x. Option Sent) [ Some st' ↦ go st' ks | None ↦ None ]) e
+-- Each token that is taken leads on.
+pub leads_past : (ks : List Placed) (i : ℕ) (k : Placed) (st next : State) → i < length ks → k ≡ get_or ks i k → Leads (tokens_of (take i ks)) st → step st k.token ≡ Ok next → Leads (tokens_of (take (i + 1) ks)) next
+leads_past ks i k st next h e l d = subst (λ (js : List Token). Leads js next) (sym (more_tokens ks i k h e)) (leads_on (tokens_of (take i ks)) k.token st next l d)
 
-stops_by : (st : State) (k : Token) (ks : List Token) → step st k ≡ None → go st (k ∷ ks) ≡ None
-stops_by st k ks e = ap (λ (o : Option State). elim o as (λ x. Option Sent) [ Some st' ↦ go st' ks | None ↦ None ]) e
+-- A refusal of a token is the first one of the tokens.
 
-pub past_token : (text : List ℕ) (st next : State) (c : ℕ) (cs rest : List ℕ) (k : Token) → Reading text st (c ∷ cs) → is_blank c ≡ false → first_token (c ∷ cs) ≡ Some (k, rest) → step st k ≡ Some next → Reading text next rest
-past_token text st next c cs rest k r i found stepped = record {
-  front = r.front ++ k ∷ [];
-  built = step_built st next r.front k r.built stepped;
-  sound = λ ks t. subst (λ (ls : List Token). AreTokens text ls) (sym (append_assoc r.front (k ∷ []) ks)) (r.sound (k ∷ ks) (token_sound (c ∷ cs) k rest ks found t));
-  exact = λ ks s t q.
-      let (js, (u, e)) = r.exact ks s t q in
-      let f = same_first (c ∷ cs) k rest js found (first_of u c cs refl i) in
-      (f.others, (f.are_others, sym (goes_by st next k f.others stepped) ∙ ap (λ (ls : List Token). go st ls) (sym f.is_first) ∙ e));
-}
+pub stopped_by : (end : ℕ) (before : List Placed) (k : Placed) (after : List Placed) (st : State) (refusal : Refusal) → Leads (tokens_of before) st → step st k.token ≡ Err refusal
+    → (at_place refusal k.place ≡ read.Memory) ⊎ IsStopped end (before ++ k ∷ after) (at_place refusal k.place)
+stopped_by end before k after st Ambiguous l d = inr (ambiguous end before k after (leads_begins (tokens_of before) st l) (ambiguous_begins_none (tokens_of before) k.token st l d) (ambiguous_is (tokens_of before) k.token st l d))
+stopped_by end before k after st Unexpected l d = inr (unexpected end before k after (leads_begins (tokens_of before) st l) (unexpected_begins_none (tokens_of before) k.token st l d) (unexpected_joins (tokens_of before) k.token st l d))
+stopped_by end before k after st TooDeep l d = inr (too_deep end before k after (leads_begins (tokens_of before) st l) (deep_begins (tokens_of before) k.token st l d) (deep_begins_none (tokens_of before) k.token st l d))
+stopped_by end before k after st Memory l d = inl refl
 
--- The text spells no sentence by the grammar.
-abbrev pub SpellsNone : List ℕ → Type 0
-SpellsNone text = (ks : List Token) → (s : Sent) → AreTokens text ks → Spells 120 ks s → ⊥
+abbrev pub StopsAt : ℕ → List Placed → ReadFault → Type 0
+StopsAt end ks fault = (fault ≡ read.Memory) ⊎ IsStopped end ks fault
 
-no_first : (found : Token × List ℕ) → None ≡ Some found → ⊥
-no_first found e = cc
+pub stopped_at : (end : ℕ) (ks : List Placed) (i : ℕ) (k : Placed) (st : State) (refusal : Refusal) (fault : ReadFault) → i < length ks → k ≡ get_or ks i k → Leads (tokens_of (take i ks)) st
+    → step st k.token ≡ Err refusal → fault ≡ at_place refusal k.place → StopsAt end ks fault
+stopped_at end ks i k st refusal fault h e l d f =
+    subst (λ (g : ReadFault). StopsAt end ks g) (sym f)
+    (subst (λ (js : List Placed). StopsAt end js (at_place refusal k.place)) (sym (split_at ks i k h e)) (stopped_by end (take i ks) k (drop (i + 1) ks) st refusal l d))
 
-pub no_token : (text : List ℕ) (st : State) (c : ℕ) (cs : List ℕ) → Reading text st (c ∷ cs) → is_blank c ≡ false → first_token (c ∷ cs) ≡ None → SpellsNone text
-no_token text st c cs r i missing ks s t q =
-    let (js, (u, e)) = r.exact ks s t q in
-    let f = first_of u c cs refl i in
-    no_first (f.first, f.rest) (sym missing ∙ f.found)
+-- The end
 
-pub no_step : (text : List ℕ) (st : State) (c : ℕ) (cs rest : List ℕ) (k : Token) → Reading text st (c ∷ cs) → is_blank c ≡ false → first_token (c ∷ cs) ≡ Some (k, rest) → step st k ≡ None → SpellsNone text
-no_step text st c cs rest k r i found refused ks s t q =
-    let (js, (u, e)) = r.exact ks s t q in
-    let f = same_first (c ∷ cs) k rest js found (first_of u c cs refl i) in
-    let clash : None ≡ Some s = sym (stops_by st k f.others refused) ∙ ap (λ (ls : List Token). go st ls) (sym f.is_first) ∙ e in cc
+pub end_refusal : (m : Mode) (h : Group) (o : List Group) (refusal : Refusal) → ended_in m h o ≡ Err refusal → refusal ≡ Unexpected
+end_refusal (HasPart s) h [] refusal e = cc
+end_refusal (HasPredicate p) h [] refusal e = cc
+end_refusal (HasPart s) h (g ∷ o) refusal e = cc
+end_refusal (HasPredicate p) h (g ∷ o) refusal e = cc
+end_refusal WantsPart h o refusal e = cc
+end_refusal (WantsVariable q) h o refusal e = cc
+end_refusal (WantsArgument p ts) h o refusal e = cc
+end_refusal (HasArgument p ts) h o refusal e = cc
+end_refusal (HasLeft a) h o refusal e = cc
+end_refusal (WantsRight a r) h o refusal e = cc
 
-at_its_end : (text : List ℕ) (st : State) → Reading text st [] → (ks : List Token) (s : Sent) → AreTokens text ks → Spells 120 ks s → ended st ≡ Some s
-at_its_end text st r ks s t q = let (js, (u, e)) = r.exact ks s t q in ap (λ (ls : List Token). go st ls) (sym (end_of u refl)) ∙ e
+pub stopped_early : (end : ℕ) (ks : List Placed) (st : State) (refusal : Refusal) (fault : ReadFault) → Leads (tokens_of ks) st → ended st ≡ Err refusal → fault ≡ at_place refusal end → StopsAt end ks fault
+stopped_early end ks st refusal fault l d f =
+    let is = end_refusal st.mode st.here st.outer refusal d in
+    subst (λ (g : ReadFault). StopsAt end ks g) (sym (f ∙ ap (λ (r : Refusal). at_place r end) is))
+    (inr (ends_early end ks (leads_begins (tokens_of ks) st l) (early_spells_none (tokens_of ks) st refusal l d)))
 
-pub no_end : (text : List ℕ) (st : State) → Reading text st [] → ended st ≡ None → SpellsNone text
-no_end text st r missing ks s t q = let clash : None ≡ Some s = sym missing ∙ at_its_end text st r ks s t q in cc
+pub spells_at_end : (ks : List Placed) (st : State) (s : Sent) → Leads (tokens_of ks) st → ended st ≡ Ok s → Spells 120 (tokens_of ks) s
+spells_at_end ks st s l d = ended_spells 120 st s (tokens_of ks) (reached 120 (tokens_of ks) st l) d
 
-pub reads_what_is_spelled : (text : List ℕ) (st : State) (s : Sent) → Reading text st [] → ended st ≡ Some s → (ks : List Token) × (AreTokens text ks × Spells 120 ks s)
-reads_what_is_spelled text st s r e = (r.front, (subst (λ (ls : List Token). AreTokens text ls) (append-nil r.front) (r.sound [] at_end), ended_spells st s r.front r.built e))
+-- What the calls for a token and for the end answer
 
-pub reads_no_other : (text : List ℕ) (st : State) (s : Sent) → Reading text st [] → ended st ≡ Some s → (ks : List Token) → (t : Sent) → AreTokens text ks → Spells 120 ks t → t ≡ s
-reads_no_other text st s r e ks t u q = some_same t s (sym (at_its_end text st r ks t u q) ∙ e)
+pub turn_stops : (end : ℕ) (ks : List Placed) (i : ℕ) (k : Placed) (st : State) (fault : ReadFault) → i < length ks → k ≡ get_or ks i k → Leads (tokens_of (take i ks)) st
+    → GivesAt {Y = State} k.place (Err fault) (step st k.token) → StopsAt end ks fault
+turn_stops end ks i k st fault h e l (inl m) = inl m
+turn_stops end ks i k st fault h e l (inr (refusal, (d, f))) = stopped_at end ks i k st refusal fault h e l d f
 
--- one turn of the reader
+all_read : (ks : List Placed) (i : ℕ) (st : State) → length ks ≤ i → Leads (tokens_of (take i ks)) st → Leads (tokens_of ks) st
+all_read ks i st h l = subst (λ (js : List Placed). Leads (tokens_of js) st) (take_all i ks h) l
 
-abbrev Turns : List ℕ → State → List ℕ → Option (State × List ℕ) → Type 0
-Turns text st bs None = Reading text st bs → SpellsNone text
-Turns text st bs (Some f) = (Reading text st bs → Reading text f.0 f.1) × (length f.1 < length bs)
+pub end_reads : (end : ℕ) (ks : List Placed) (i : ℕ) (st : State) (r : Result Sent ReadFault) → length ks ≤ i → Leads (tokens_of (take i ks)) st → GivesAt end r (ended st) → IfOk r (λ s. Spells 120 (tokens_of ks) s)
+end_reads end ks i st (Ok s) h l g = spells_at_end ks st s (all_read ks i st h l) g
+end_reads end ks i st (Err fault) h l g = tt
 
-step_turns : (text : List ℕ) (st : State) (c : ℕ) (cs rest : List ℕ) (k : Token) (o : Option State) → is_blank c ≡ false → first_token (c ∷ cs) ≡ Some (k, rest) → step st k ≡ o → Turns text st (c ∷ cs) (elim o [ Some next ↦ Some (next, rest) | None ↦ None ])
-step_turns text st c cs rest k (Some next) i found e = (λ r. past_token text st next c cs rest k r i found e, token_shorter (c ∷ cs) k rest found)
-step_turns text st c cs rest k None i found e = λ r. no_step text st c cs rest k r i found e
+pub end_stops : (end : ℕ) (ks : List Placed) (i : ℕ) (st : State) (r : Result Sent ReadFault) → length ks ≤ i → Leads (tokens_of (take i ks)) st → GivesAt end r (ended st) → IfErr r (λ fault. StopsAt end ks fault)
+end_stops end ks i st (Ok s) h l g = tt
+end_stops end ks i st (Err fault) h l (inl m) = inl m
+end_stops end ks i st (Err fault) h l (inr (refusal, (d, f))) = stopped_early end ks st refusal fault (all_read ks i st h l) d f
 
-token_turns : (text : List ℕ) (st : State) (c : ℕ) (cs : List ℕ) (o : Option (Token × List ℕ)) → is_blank c ≡ false → first_token (c ∷ cs) ≡ o → Turns text st (c ∷ cs) (onward st o)
-token_turns text st c cs None i e = λ r. no_token text st c cs r i e
-token_turns text st c cs (Some f) i e = step_turns text st c cs f.1 f.0 (step st f.0) i e refl
+-- A text spells one sentence at most.
 
-blank_turns : (text : List ℕ) (st : State) (c : ℕ) (cs : List ℕ) (b : Bool) → is_blank c ≡ b → Turns text st (c ∷ cs) (elim (if b then Some cs else None) [ Some rest ↦ Some (st, rest) | None ↦ onward st (first_token (c ∷ cs)) ])
-blank_turns text st c cs true i = (λ r. past_blank text st c cs r i, omega arith)
-blank_turns text st c cs false i = token_turns text st c cs (first_token (c ∷ cs)) i refl
+ok_same : (s t : Sent) → (r : Result Sent Refusal) → r ≡ Ok s → r ≡ Ok t → s ≡ t
+ok_same s t r e f = cc
 
-turns : (text : List ℕ) (st : State) (c : ℕ) (cs : List ℕ) → Turns text st (c ∷ cs) (turn st (c ∷ cs))
-unfolding turn
-turns text st c cs = blank_turns text st c cs (is_blank c) refl
+pub same_tokens : (n : ℕ) (ks js : List Placed) (s t : Sent) → ks ≡ js → Spells n (tokens_of ks) s → Spells n (tokens_of js) t → s ≡ t
+same_tokens n ks js s t e p q =
+    ok_same s t (go (begin n) (tokens_of ks)) (spelled_is_read n (tokens_of ks) s p)
+    (ap (λ (ls : List Placed). go (begin n) (tokens_of ls)) e ∙ spelled_is_read n (tokens_of js) t q)
 
-turn_takes_none : (st : State) → turn st [] ≡ None
-unfolding turn first_token
-turn_takes_none st = refl
+either_way : (m n : ℕ) → m + n ≡ n + m
+either_way m n = omega arith
 
-no_turn_at_end : (found : State × List ℕ) → None ≡ Some found → ⊥
-no_turn_at_end found e = cc
+pub spells_once : (text : List ℕ) (s t : Sent) → SpellsText text s → SpellsText text t → s ≡ t
+spells_once text s t a b =
+    same_tokens (b.room + a.room) a.tokens b.tokens s t (tokens_once a.are_tokens b.tokens b.are_tokens)
+    (much_wider b.room a.room (tokens_of a.tokens) s a.spells)
+    (subst (λ (n : ℕ). Spells n (tokens_of b.tokens) t) (either_way a.room b.room) (much_wider a.room b.room (tokens_of b.tokens) t b.spells))
 
-pub turn_reads : (text : List ℕ) (st next : State) (bs rest : List ℕ) → Reading text st bs → turn st bs ≡ Some (next, rest) → Reading text next rest
-turn_reads text st next [] rest r e = absurd (no_turn_at_end (next, rest) (sym (turn_takes_none st) ∙ e))
-turn_reads text st next (c ∷ cs) rest r e = let t = subst (λ (o : Option (State × List ℕ)). Turns text st (c ∷ cs) o) e (turns text st c cs) in t.0 r
-
-pub turn_shortens : (st next : State) (bs rest : List ℕ) → turn st bs ≡ Some (next, rest) → length rest < length bs
-turn_shortens st next [] rest e = absurd (no_turn_at_end (next, rest) (sym (turn_takes_none st) ∙ e))
-turn_shortens st next (c ∷ cs) rest e = let t = subst (λ (o : Option (State × List ℕ)). Turns [] st (c ∷ cs) o) e (turns [] st c cs) in t.1
-
-pub no_turn : (text : List ℕ) (st : State) (bs : List ℕ) → bs ≢ [] → Reading text st bs → turn st bs ≡ None → SpellsNone text
-no_turn text st [] h r e = absurd (h refl)
-no_turn text st (c ∷ cs) h r e = let t = subst (λ (o : Option (State × List ℕ)). Turns text st (c ∷ cs) o) e (turns text st c cs) in t r
-
--- what the reader's loop answers
-
-two_faults : (r : Result Sent ReadFault) → r ≡ Err Memory → r ≡ Err NotYet → ⊥
-two_faults r e f = cc
-
--- what the test of the loop says
-
-not_empty : (n : ℕ) → (suc n == 0) ≡ true → ⊥
-not_empty n e = grind (arith, nat_tests)
-
-pub no_bytes : (bs : List ℕ) (empty : Bool) → empty ≡ (length bs == 0) → empty ≡ true → bs ≡ []
-no_bytes [] empty e f = refl
-no_bytes (b ∷ bs) empty e f = absurd (not_empty (length bs) (sym e ∙ f))
-
-pub some_bytes : (bs : List ℕ) (empty : Bool) → empty ≡ (length bs == 0) → empty ≡ false → bs ≢ []
-some_bytes [] empty e f g = cc
-some_bytes (b ∷ bs) empty e f g = cc
-
-pub refused : (text : List ℕ) (st : State) (bs : List ℕ) (fault : ReadFault) (r : Result Sent ReadFault) → bs ≢ [] → Reading text st bs → Refuses fault (turn st bs) → r ≡ Err fault → r ≡ Err NotYet → SpellsNone text
-refused text st bs NotYet r h reading e f g = no_turn text st bs h reading e
-refused text st bs Memory r h reading e f g = absurd (two_faults r f g)
-
-pub answers_read : (text : List ℕ) (st : State) (r : Result Sent ReadFault) → Reading text st [] → Gives itself r (ended st) → IfOk r (λ s. (ks : List Token) × (AreTokens text ks × Spells 120 ks s))
-answers_read text st (Ok s) reading e = reads_what_is_spelled text st s reading e
-answers_read text st (Err fault) reading e = tt
-
-pub answers_only : (text : List ℕ) (st : State) (r : Result Sent ReadFault) → Reading text st [] → Gives itself r (ended st) → IfOk r (λ s. (ks : List Token) → (t : Sent) → AreTokens text ks → Spells 120 ks t → t ≡ s)
-answers_only text st (Ok s) reading e = reads_no_other text st s reading e
-answers_only text st (Err fault) reading e = tt
-
-pub answers_not_yet : (text : List ℕ) (st : State) (r : Result Sent ReadFault) → Reading text st [] → Gives itself r (ended st) → r ≡ Err NotYet → SpellsNone text
-answers_not_yet text st r reading e f = no_end text st reading (subst (λ (q : Result Sent ReadFault). Gives itself q (ended st)) f e)
+pub readable_once : (text : List ℕ) (s : Sent) (ks : List Placed) (t : Sent) → IsReadable text s → AreTokens 0 text ks → Spells 120 (tokens_of ks) t → t ≡ s
+readable_once text s ks t r a p = same_tokens 120 ks r.tokens t s (tokens_once a r.tokens r.are_tokens) p r.spells

@@ -1,199 +1,175 @@
--- What is read is spelled: each state stands for what the tokens so far spell, and each token keeps this.
-use Rattle.std.proofs.Common.{◌≡◌, ℕ, zero, suc, ◌-◌, ◌==◌, Bool, true, false, List, [], ◌∷◌, ◌++◌, ◌⊎◌, inl, inr, Option, Some, None, refl, ap, sym, ◌∙◌, subst, append_assoc, if◌then◌else◌, arith}
+-- What is read is spelled: each token keeps what the state stands for, and at the end the sentence is spelled.
+use Rattle.std.proofs.Common.{◌≡◌, ℕ, suc, ◌+◌, List, [], ◌∷◌, ◌++◌, length, inl, inr, Result, Ok, Err, refl, ap, sym, ◌∙◌, subst, append_assoc}
 use Rattle.std.proofs.lemmas.List.{append-nil}
-use Rattle.fol_core.specs.Word.{Word, is_predicate, is_name}
+use Rattle.fol_core.specs.Word.{Word}
 use Rattle.fol_core.specs.declared.sent.Term.{Term}
-use Rattle.fol_core.specs.declared.sent.Term.TheVariants.{Name}
 use Rattle.fol_core.specs.declared.sent.Sent.{Sent}
-use Rattle.fol_core.specs.declared.sent.Sent.TheVariants.{Atom, And}
-use Rattle.fol_text.specs.Tokens.{Token, and_sign, open_paren, close_paren, comma, word}
-use Rattle.fol_text.specs.Grammar.{SpellsTerm, name, SpellsTerms, last_term, more_terms, Spells, one_part, conjunction, SpellsParts, last_part, more_parts, SpellsPart, letter, atom, group}
-use Rattle.fol_text.specs.declared.machine.Mode.{Mode}
-use Rattle.fol_text.specs.declared.machine.Mode.TheVariants.{WantsPart, HasPredicate, WantsArgument, HasArgument, HasPart}
-use Rattle.fol_text.specs.declared.machine.Group.{Group}
-use Rattle.fol_text.specs.declared.machine.State.{State}
-use Rattle.fol_text.specs.Machine.{state, whole, step, step_in, begin_part, open_group, after_predicate, take_name, after_argument, after_part, close_group, ended, ended_in, begin}
+use Rattle.fol_core.specs.declared.sent.Sent.TheVariants.{Atom, If, Iff}
+use Rattle.fol_text.specs.declared.fault.Refusal.{Refusal}
+use Rattle.fol_text.specs.declared.token.Token.{Token}
+use Rattle.fol_text.specs.declared.token.Token.TheVariants.{AndSign, OrSign, IfSign, IffSign, Equals, Unequal, Open, Close, Comma, Identifier}
+use Rattle.fol_text.specs.declared.state.Prefix.{Prefix}
+use Rattle.fol_text.specs.declared.state.Relation.{Relation}
+use Rattle.fol_text.specs.declared.state.Relation.TheVariants.{Same, Different}
+use Rattle.fol_text.specs.declared.state.Begun.{Begun}
+use Rattle.fol_text.specs.declared.state.Begun.TheVariants.{Nothing, Conjunction, Disjunction, Conditional, Biconditional}
+use Rattle.fol_text.specs.declared.state.Mode.{Mode}
+use Rattle.fol_text.specs.declared.state.Mode.TheVariants.{WantsPart, WantsVariable, HasPredicate, WantsArgument, HasArgument, HasLeft, WantsRight, HasPart}
+use Rattle.fol_text.specs.declared.state.Group.{Group}
+use Rattle.fol_text.specs.declared.state.State.{State}
+use Rattle.fol_text.specs.Grammar.{SpellsTerm, SpellsTerms, last_term, Spells, one_part, conditional, biconditional, SpellsParts, last_part, SpellsPart, atom, equation, inequation, group}
+use Rattle.fol_text.specs.Machine.{state, group_of, wrapped, finished, conjoined, disjoined, whole, close_group, begun_by, joined, after_part, term_of, after_predicate, take_argument, after_argument, after_left, related, take_right, step_in, step, ended_in, ended}
+use Rattle.fol_text.proofs.Spelling.{terms_snoc, parts_snoc, conjoined_spelled, disjoined_spelled}
+use Rattle.fol_text.proofs.Built.{Chained, LeftSide, BegunBy, Prefixed, Inside, Listing, relation_sign, Built, no_prefix, Next, goes_on, more_front, no_more, wrapped_spelled, finished_all, completes, letter_built, next_term, begins, variable_goes_on}
 
-terms_snoc : {ks : List Token} {ts : List Term} → SpellsTerms ks ts → (k : Token) (t : Term) → SpellsTerm k t → SpellsTerms (ks ++ comma ∷ k ∷ []) (ts ++ t ∷ [])
-terms_snoc (last_term j u i) k t h = more_terms j u (k ∷ []) (t ∷ []) i (last_term k t h)
-terms_snoc (more_terms j u ks ts i q) k t h = more_terms j u (ks ++ comma ∷ k ∷ []) (ts ++ t ∷ []) i (terms_snoc q k t h)
+-- what stands behind a part
 
-parts_snoc : {sign : Token} {n : ℕ} {ks : List Token} {ss : List Sent} → SpellsParts sign n ks ss → (js : List Token) (s : Sent) → SpellsPart n js s → SpellsParts sign n (ks ++ sign ∷ js) (ss ++ s ∷ [])
-parts_snoc (last_part sign n ks t q) js s h = more_parts sign n ks js t (s ∷ []) q (last_part sign n js s h)
-parts_snoc (more_parts sign n ks ls t ss q r) js s h =
-    subst (λ (xs : List Token). SpellsParts sign n xs (t ∷ ss ++ s ∷ [])) (sym (append_assoc ks (sign ∷ ls) (sign ∷ js)))
-    (more_parts sign n ks (ls ++ sign ∷ js) t (ss ++ s ∷ []) q (parts_snoc r js s h))
+whole_left : (n : ℕ) (k : Token) (p s whole_of : Sent) (chain now : List Token) → ((ls js : List Token) → SpellsPart n ls p → SpellsPart n js s → Spells n (ls ++ k ∷ js) whole_of) → LeftSide k n p chain → SpellsPart n now s → Spells n (chain ++ now) whole_of
+whole_left n k p s whole_of chain now make (js, (h, e)) q = subst (λ (ks : List Token). Spells n ks whole_of) (sym (more_front js now chain k e)) (make js now h q)
 
-chain_spelled : {sign : Token} {n : ℕ} {ks : List Token} {ss : List Sent} → SpellsParts sign n ks ss → sign ≡ and_sign → (js : List Token) (s : Sent) → SpellsPart n js s → Spells n (ks ++ and_sign ∷ js) (whole ss s)
-unfolding whole
-chain_spelled (last_part sign n ks t q) e js s h = conjunction n ks js t (s ∷ []) q (last_part and_sign n js s h)
-chain_spelled (more_parts sign n ks ls t ss q r) e js s h =
-    let r' = subst (λ (k : Token). SpellsParts k n ls ss) e r in
-    subst (λ (k : Token). Spells n ((ks ++ k ∷ ls) ++ and_sign ∷ js) (And (t ∷ ss ++ s ∷ []))) (sym e)
-    (subst (λ (xs : List Token). Spells n xs (And (t ∷ ss ++ s ∷ []))) (sym (append_assoc ks (and_sign ∷ ls) (and_sign ∷ js)))
-    (conjunction n ks (ls ++ and_sign ∷ js) t (ss ++ s ∷ []) q (parts_snoc r' js s h)))
+whole_spelled : (n : ℕ) (b : Begun) (chain now : List Token) (s : Sent) → BegunBy n b chain → SpellsPart n now s → Spells n (chain ++ now) (whole b s)
+whole_spelled n Nothing chain now s e q = subst (λ (ks : List Token). Spells n (ks ++ now) s) (sym e) (one_part n now s q)
+whole_spelled n (Conjunction ps) chain now s (js, (r, e)) q = subst (λ (ks : List Token). Spells n ks (conjoined ps s)) (sym (more_front js now chain AndSign e)) (conjoined_spelled n js ps r now s q)
+whole_spelled n (Disjunction ps) chain now s (js, (r, e)) q = subst (λ (ks : List Token). Spells n ks (disjoined ps s)) (sym (more_front js now chain OrSign e)) (disjoined_spelled n js ps r now s q)
+whole_spelled n (Conditional p) chain now s d q = whole_left n IfSign p s (If p s) chain now (λ ls js h g. conditional n ls js p s h g) d q
+whole_spelled n (Biconditional p) chain now s d q = whole_left n IffSign p s (Iff p s) chain now (λ ls js h g. biconditional n ls js p s h g) d q
 
--- the tokens spell the parts, with an `&` behind each of them
-abbrev Begun : ℕ → List Sent → List Token → Type 0
-Begun n ps ks = ((ps ≡ []) × (ks ≡ [])) ⊎ ((js : List Token) × (SpellsParts and_sign n js ps × (ks ≡ js ++ and_sign ∷ [])))
+chain_grows : (n : ℕ) (k : Token) (ps : List Sent) (chain now : List Token) (s : Sent) → Chained k n ps chain → SpellsPart n now s → Chained k n (ps ++ s ∷ []) (chain ++ now ++ k ∷ [])
+chain_grows n k ps chain now s (js, (r, e)) q = (chain ++ now, (subst (λ (ks : List Token). SpellsParts k n ks (ps ++ s ∷ [])) (sym (more_front js now chain k e)) (parts_snoc r now s q), refl))
 
--- the tokens lead into these groups, the innermost of which has this room
-abbrev Inside : ℕ → List Group → List Token → Type 0
-Inside n [] ks = (n ≡ 120) × (ks ≡ [])
-Inside n (g ∷ o) ks = (before : List Token) × ((chain : List Token) × ((g.room ≡ suc n) × (Inside g.room o before × (Begun g.room g.parts chain × (ks ≡ before ++ chain ++ open_paren ∷ [])))))
+chain_begins : (n : ℕ) (k : Token) (chain now : List Token) (s : Sent) → chain ≡ [] → SpellsPart n now s → Chained k n (s ∷ []) (chain ++ now ++ k ∷ [])
+chain_begins n k chain now s e q = (chain ++ now, (subst (λ (ks : List Token). SpellsParts k n (ks ++ now) (s ∷ [])) (sym e) (last_part k n now s q), refl))
 
--- the tokens spell the terms, with a comma behind each of them
-abbrev Listing : List Term → List Token → Type 0
-Listing ts ks = ((ts ≡ []) × (ks ≡ [])) ⊎ ((js : List Token) × (SpellsTerms js ts × (ks ≡ js ++ comma ∷ [])))
+left_begins : (n : ℕ) (k : Token) (chain now : List Token) (s : Sent) → chain ≡ [] → SpellsPart n now s → LeftSide k n s (chain ++ now ++ k ∷ [])
+left_begins n k chain now s e q = (chain ++ now, (subst (λ (ks : List Token). SpellsPart n (ks ++ now) s) (sym e) q, refl))
 
--- the tokens of a part that has begun
-abbrev Pending : ℕ → Mode → List Token → Type 0
-Pending n WantsPart ks = ks ≡ []
-Pending n (HasPredicate p) ks = (is_predicate p ≡ true) × (ks ≡ word p ∷ [])
-Pending n (WantsArgument p ts) ks = (is_predicate p ≡ true) × ((js : List Token) × (Listing ts js × (ks ≡ word p ∷ open_paren ∷ js)))
-Pending n (HasArgument p ts) ks = (is_predicate p ≡ true) × ((js : List Token) × (SpellsTerms js ts × (ks ≡ word p ∷ open_paren ∷ js)))
-Pending n (HasPart s) ks = SpellsPart n ks s
+abbrev Grows : ℕ → Token → List Token → Result Begun Refusal → Type 0
+Grows n k ks (Err refusal) = Unit {0}
+Grows n k ks (Ok b) = BegunBy n b ks
 
--- the tokens so far, and what each stretch of them has come to in the state
-pub record Built (st : State) (ks : List Token) : Type 0 where
-  before : List Token
-  chain : List Token
-  now : List Token
-  inside : Inside st.here.room st.outer before
-  begun : Begun st.here.room st.here.parts chain
-  pending : Pending st.here.room st.mode now
-  all : ks ≡ before ++ chain ++ now
+begun_grows : (n : ℕ) (b : Begun) (chain now : List Token) (s : Sent) (k : Token) → BegunBy n b chain → SpellsPart n now s → Grows n k (chain ++ now ++ k ∷ []) (begun_by s b k)
+begun_grows n Nothing chain now s AndSign e q = chain_begins n AndSign chain now s e q
+begun_grows n Nothing chain now s OrSign e q = chain_begins n OrSign chain now s e q
+begun_grows n Nothing chain now s IfSign e q = left_begins n IfSign chain now s e q
+begun_grows n Nothing chain now s IffSign e q = left_begins n IffSign chain now s e q
+begun_grows n (Conjunction ps) chain now s AndSign e q = chain_grows n AndSign ps chain now s e q
+begun_grows n (Disjunction ps) chain now s OrSign e q = chain_grows n OrSign ps chain now s e q
+begun_grows n (Conditional p) chain now s AndSign e q = tt
+begun_grows n (Conditional p) chain now s OrSign e q = tt
+begun_grows n (Conditional p) chain now s IfSign e q = tt
+begun_grows n (Conditional p) chain now s IffSign e q = tt
+begun_grows n (Conditional p) chain now s k e q = tt
+begun_grows n (Biconditional p) chain now s AndSign e q = tt
+begun_grows n (Biconditional p) chain now s OrSign e q = tt
+begun_grows n (Biconditional p) chain now s IfSign e q = tt
+begun_grows n (Biconditional p) chain now s IffSign e q = tt
+begun_grows n (Biconditional p) chain now s k e q = tt
+begun_grows n b chain now s k e q = tt
 
-pub begin_built : Built begin []
-begin_built = record { before = []; chain = []; now = []; inside = (refl, refl); begun = inl (refl, refl); pending = refl; all = refl }
+no_front : (ps : List Prefix) (front : List Token) → ps ≡ [] → Prefixed ps front → front ≡ []
+no_front [] front e f = f
+no_front (p ∷ ps) front e f = cc
 
-abbrev Next : Option State → List Token → Type 0
-Next None ks = Unit {0}
-Next (Some st) ks = Built st ks
+part_all : (ks before chain front now : List Token) → ks ≡ before ++ chain ++ front ++ now → front ≡ [] → ks ≡ before ++ chain ++ now
+part_all ks before chain front now e f = e ∙ ap (λ (xs : List Token). before ++ chain ++ xs ++ now) f ∙ ap (λ (xs : List Token). xs ++ now) (append-nil (before ++ chain))
 
-next_if : (b : Bool) (st : State) (ks : List Token) → (b ≡ true → Built st ks) → Next (if b then Some st else None) ks
-next_if true st ks f = f refl
-next_if false st ks f = tt
+full_room : (r n : ℕ) (ps : List Prefix) → r ≡ n + length ps → ps ≡ [] → n ≡ r
+full_room r n [] e f = no_more r n e
+full_room r n (p ∷ ps) e f = cc
 
-next_unless : (b : Bool) (st : State) (ks : List Token) → (b ≡ false → Built st ks) → Next (if b then None else Some st) ks
-next_unless true st ks f = tt
-next_unless false st ks f = f refl
+-- the tokens of a state behind a part: those of the groups around, of what is begun, and of the part
+pub record AtPart (top : ℕ) (s : Sent) (h : Group) (o : List Group) (ks : List Token) : Type 0 where
+  pub before : List Token
+  pub chain : List Token
+  pub now : List Token
+  pub bare : h.prefixes ≡ []
+  pub inside : Inside top h.room o before
+  pub begun : BegunBy h.room h.begun chain
+  pub spells : SpellsPart h.room now s
+  pub all : ks ≡ before ++ chain ++ now
 
--- one more token of the part
-goes_on : (m m' : Mode) (h : Group) (o : List Group) (ks : List Token) (k : Token) (b : Built (state m h o) ks) → Pending h.room m' (b.now ++ k ∷ []) → Built (state m' h o) (ks ++ k ∷ [])
-goes_on m m' h o ks k b p = record {
-  before = b.before;
-  chain = b.chain;
-  now = b.now ++ k ∷ [];
-  inside = b.inside;
-  begun = b.begun;
-  pending = p;
-  all = ap (λ (xs : List Token). xs ++ k ∷ []) b.all ∙ append_assoc (b.before ++ b.chain) b.now (k ∷ []);
-}
-
-predicate_built : (w : Word) (h : Group) (o : List Group) (ks : List Token) → Built (state WantsPart h o) ks → is_predicate w ≡ true → Built (state (HasPredicate w) h o) (ks ++ word w ∷ [])
-predicate_built w h o ks b i = goes_on WantsPart (HasPredicate w) h o ks (word w) b (i, ap (λ (xs : List Token). xs ++ word w ∷ []) b.pending)
-
-room_left : (n : ℕ) → (n == 0) ≡ false → n ≡ suc (n - 1)
-room_left zero e = cc
-room_left (suc n) e = omega arith
-
-opens_all : (ks before chain now : List Token) (k : Token) → ks ≡ before ++ chain ++ now → now ≡ [] → ks ++ k ∷ [] ≡ before ++ chain ++ k ∷ [] ++ [] ++ []
-opens_all ks before chain now k e f =
-    ap (λ (xs : List Token). xs ++ k ∷ []) (e ∙ ap (λ (xs : List Token). before ++ chain ++ xs) f ∙ append-nil (before ++ chain))
-    ∙ sym (append-nil (before ++ chain ++ k ∷ [])) ∙ sym (append-nil (before ++ chain ++ k ∷ [] ++ []))
-
-group_built : (h : Group) (o : List Group) (ks : List Token) → Built (state WantsPart h o) ks → Next (open_group h o) (ks ++ open_paren ∷ [])
-group_built h o ks b =
-    next_unless (h.room == 0) (state WantsPart (record { room = h.room - 1; parts = [] }) (h ∷ o)) (ks ++ open_paren ∷ []) (λ e. record {
-      before = b.before ++ b.chain ++ open_paren ∷ [];
-      chain = [];
-      now = [];
-      inside = (b.before, (b.chain, (room_left h.room e, (b.inside, (b.begun, refl)))));
-      begun = inl (refl, refl);
-      pending = refl;
-      all = opens_all ks b.before b.chain b.now open_paren b.all b.pending;
-    })
-
-begins : (h : Group) (o : List Group) (ks : List Token) (k : Token) → Built (state WantsPart h o) ks → Next (begin_part h o k) (ks ++ k ∷ [])
-begins h o ks (word w) b = next_if (is_predicate w) (state (HasPredicate w) h o) (ks ++ word w ∷ []) (predicate_built w h o ks b)
-begins h o ks open_paren b = group_built h o ks b
-begins h o ks k b = tt
-
--- the parts of a group, where the last one is whole
-parts_spelled : (n : ℕ) (ps : List Sent) (chain now : List Token) (s : Sent) → Begun n ps chain → SpellsPart n now s → SpellsParts and_sign n (chain ++ now) (ps ++ s ∷ [])
-parts_spelled n ps chain now s (inl e) q =
-    subst (λ (ks : List Token). SpellsParts and_sign n (ks ++ now) (ps ++ s ∷ [])) (sym e.1)
-    (subst (λ (qs : List Sent). SpellsParts and_sign n now (qs ++ s ∷ [])) (sym e.0) (last_part and_sign n now s q))
-parts_spelled n ps chain now s (inr (js, (r, e))) q =
-    subst (λ (ks : List Token). SpellsParts and_sign n (ks ++ now) (ps ++ s ∷ [])) (sym e)
-    (subst (λ (ks : List Token). SpellsParts and_sign n ks (ps ++ s ∷ [])) (sym (append_assoc js (and_sign ∷ []) now)) (parts_snoc r now s q))
-
-whole_spelled : (n : ℕ) (ps : List Sent) (chain now : List Token) (s : Sent) → Begun n ps chain → SpellsPart n now s → Spells n (chain ++ now) (whole ps s)
-unfolding whole
-whole_spelled n ps chain now s (inl e) q =
-    subst (λ (ks : List Token). Spells n (ks ++ now) (whole ps s)) (sym e.1)
-    (subst (λ (qs : List Sent). Spells n now (whole qs s)) (sym e.0) (one_part n now s q))
-whole_spelled n ps chain now s (inr (js, (r, e))) q =
-    subst (λ (ks : List Token). Spells n (ks ++ now) (whole ps s)) (sym e)
-    (subst (λ (ks : List Token). Spells n ks (whole ps s)) (sym (append_assoc js (and_sign ∷ []) now)) (chain_spelled r refl now s q))
-
-sign_built : (s : Sent) (h : Group) (o : List Group) (ks : List Token) → Built (state (HasPart s) h o) ks → Built (state WantsPart (record { room = h.room; parts = h.parts ++ s ∷ [] }) o) (ks ++ and_sign ∷ [])
-sign_built s h o ks b = record {
-  before = b.before;
-  chain = b.chain ++ b.now ++ and_sign ∷ [];
-  now = [];
-  inside = b.inside;
-  begun = inr (b.chain ++ b.now, (parts_spelled h.room h.parts b.chain b.now s b.begun b.pending, refl));
-  pending = refl;
-  all = ap (λ (xs : List Token). xs ++ and_sign ∷ []) b.all ∙ simp (append_assoc, append-nil);
-}
-
-closes_all : (ks before chain now b c : List Token) → ks ≡ before ++ chain ++ now → before ≡ b ++ c ++ open_paren ∷ [] → ks ++ close_paren ∷ [] ≡ b ++ c ++ (open_paren ∷ (chain ++ now) ++ close_paren ∷ [])
-closes_all ks before chain now b c e f =
-    ap (λ (xs : List Token). xs ++ close_paren ∷ []) (e ∙ ap (λ (xs : List Token). xs ++ chain ++ now) f) ∙ simp append_assoc
-
-closed_built : (s : Sent) (h : Group) (g : Group) (o : List Group) (ks : List Token) → Built (state (HasPart s) h (g ∷ o)) ks → Built (state (HasPart (whole h.parts s)) g o) (ks ++ close_paren ∷ [])
-closed_built s h g o ks b =
-    let (before, (chain, (room, (inside, (begun, e))))) = b.inside in
-    record {
-      before = before;
-      chain = chain;
-      now = open_paren ∷ (b.chain ++ b.now) ++ close_paren ∷ [];
-      inside = inside;
-      begun = begun;
-      pending = subst (λ (n : ℕ). SpellsPart n (open_paren ∷ (b.chain ++ b.now) ++ close_paren ∷ []) (whole h.parts s)) (sym room)
-          (group h.room (b.chain ++ b.now) (whole h.parts s) (whole_spelled h.room h.parts b.chain b.now s b.begun b.pending));
-      all = closes_all ks b.before b.chain b.now before chain b.all e;
-    }
-
-group_closed : (s : Sent) (h : Group) (o : List Group) (ks : List Token) → Built (state (HasPart s) h o) ks → Next (close_group s h o) (ks ++ close_paren ∷ [])
-group_closed s h [] ks b = tt
-group_closed s h (g ∷ o) ks b = closed_built s h g o ks b
-
-part_goes_on : (s : Sent) (h : Group) (o : List Group) (ks : List Token) (k : Token) → Built (state (HasPart s) h o) ks → Next (after_part s h o k) (ks ++ k ∷ [])
-part_goes_on s h o ks and_sign b = sign_built s h o ks b
-part_goes_on s h o ks close_paren b = group_closed s h o ks b
-part_goes_on s h o ks k b = tt
-
-letter_built : (p : Word) (h : Group) (o : List Group) (ks : List Token) → Built (state (HasPredicate p) h o) ks → Built (state (HasPart (Atom p [])) h o) ks
-letter_built p h o ks b = record {
+pub at_part : (top : ℕ) (s : Sent) (h : Group) (o : List Group) (ks : List Token) → Built top (state (HasPart s) h o) ks → AtPart top s h o ks
+at_part top s h o ks b = record {
   before = b.before;
   chain = b.chain;
   now = b.now;
+  bare = b.pending.0;
   inside = b.inside;
   begun = b.begun;
-  pending = subst (λ (js : List Token). SpellsPart h.room js (Atom p [])) (sym b.pending.1) (letter h.room p b.pending.0);
-  all = b.all;
+  spells = subst (λ (n : ℕ). SpellsPart n b.now s) (full_room h.room b.left h.prefixes b.room b.pending.0) b.pending.1;
+  all = part_all ks b.before b.chain b.front b.now b.all (no_front h.prefixes b.front b.pending.0 b.prefixed);
 }
 
-arguments_built : (p : Word) (h : Group) (o : List Group) (ks : List Token) → Built (state (HasPredicate p) h o) ks → Built (state (WantsArgument p []) h o) (ks ++ open_paren ∷ [])
-arguments_built p h o ks b = goes_on (HasPredicate p) (WantsArgument p []) h o ks open_paren b
-    (b.pending.0, ([], (inl (refl, refl), ap (λ (xs : List Token). xs ++ open_paren ∷ []) b.pending.1)))
+sign_all : (ks before chain now : List Token) (k : Token) → ks ≡ before ++ chain ++ now → ks ++ k ∷ [] ≡ before ++ (chain ++ now ++ k ∷ []) ++ [] ++ []
+sign_all ks before chain now k e = ap (λ (xs : List Token). xs ++ k ∷ []) e ∙ simp (append_assoc, append-nil)
 
-predicate_goes_on : (p : Word) (h : Group) (o : List Group) (ks : List Token) (k : Token) → Built (state (HasPredicate p) h o) ks → Next (after_predicate p h o k) (ks ++ k ∷ [])
-predicate_goes_on p h o ks open_paren b = arguments_built p h o ks b
-predicate_goes_on p h o ks k b = part_goes_on (Atom p []) h o ks k (letter_built p h o ks b)
+bare_room : (r : ℕ) (ps : List Prefix) → ps ≡ [] → r ≡ r + length ps
+bare_room r [] e = no_prefix r
+bare_room r (p ∷ ps) e = cc
+
+bare_prefixed : (ps : List Prefix) → ps ≡ [] → Prefixed ps []
+bare_prefixed [] e = refl
+bare_prefixed (p ∷ ps) e = cc
+
+sign_built : (top : ℕ) (s : Sent) (h : Group) (o : List Group) (ks : List Token) (k : Token) (a : AtPart top s h o ks) (next : Result Begun Refusal) → Grows h.room k (a.chain ++ a.now ++ k ∷ []) next → Next top (joined h o next) (ks ++ k ∷ [])
+sign_built top s h o ks k a (Err refusal) g = tt
+sign_built top s h o ks k a (Ok b) g = record {
+  before = a.before;
+  chain = a.chain ++ a.now ++ k ∷ [];
+  front = [];
+  now = [];
+  left = h.room;
+  room = bare_room h.room h.prefixes a.bare;
+  inside = a.inside;
+  begun = g;
+  prefixed = bare_prefixed h.prefixes a.bare;
+  pending = refl;
+  all = sign_all ks a.before a.chain a.now k a.all;
+}
+
+closes_all : (ks before chain now b c f : List Token) → ks ≡ before ++ chain ++ now → before ≡ b ++ c ++ f ++ Open ∷ [] → ks ++ Close ∷ [] ≡ b ++ c ++ f ++ (Open ∷ (chain ++ now) ++ Close ∷ [])
+closes_all ks before chain now b c f e d = ap (λ (xs : List Token). xs ++ Close ∷ []) (e ∙ ap (λ (xs : List Token). xs ++ chain ++ now) d) ∙ simp append_assoc
+
+group_finished : (top : ℕ) (s : Sent) (g : Group) (o : List Group) (n : ℕ) (before chain front now js : List Token)
+    → g.room ≡ n + length g.prefixes → Inside top g.room o before → BegunBy g.room g.begun chain → Prefixed g.prefixes front → SpellsPart n now s → js ≡ before ++ chain ++ front ++ now → Built top (finished s g o) js
+group_finished top s g o n before chain front now js room inside begun prefixed p e = record {
+  before = before;
+  chain = chain;
+  front = [];
+  now = front ++ now;
+  left = g.room;
+  room = no_prefix g.room;
+  inside = inside;
+  begun = begun;
+  prefixed = refl;
+  pending = (refl, wrapped_spelled g.prefixes g.room n front now s room prefixed p);
+  all = finished_all js before chain front now e;
+}
+
+closed_built : (top : ℕ) (s : Sent) (h g : Group) (o : List Group) (ks : List Token) → AtPart top s h (g ∷ o) ks → Built top (finished (whole h.begun s) g o) (ks ++ Close ∷ [])
+closed_built top s h g o ks a =
+    let (before, (chain, (front, (room, (inside, (begun, (prefixed, e))))))) = a.inside in
+    group_finished top (whole h.begun s) g o (suc h.room) before chain front (Open ∷ (a.chain ++ a.now) ++ Close ∷ []) (ks ++ Close ∷ []) room inside begun prefixed
+    (group h.room (a.chain ++ a.now) (whole h.begun s) (whole_spelled h.room h.begun a.chain a.now s a.begun a.spells))
+    (closes_all ks a.before a.chain a.now before chain front a.all e)
+
+group_closed : (top : ℕ) (s : Sent) (h : Group) (o : List Group) (ks : List Token) → AtPart top s h o ks → Next top (close_group s h o) (ks ++ Close ∷ [])
+group_closed top s h [] ks a = tt
+group_closed top s h (g ∷ o) ks a = closed_built top s h g o ks a
+
+part_goes_on : (top : ℕ) (s : Sent) (h : Group) (o : List Group) (ks : List Token) (k : Token) → AtPart top s h o ks → Next top (after_part s h o k) (ks ++ k ∷ [])
+part_goes_on top s h o ks Close a = group_closed top s h o ks a
+part_goes_on top s h o ks k a = sign_built top s h o ks k a (begun_by s h.begun k) (begun_grows h.room h.begun a.chain a.now s k a.begun a.spells)
+
+arguments_built : (top : ℕ) (p : Word) (h : Group) (o : List Group) (ks : List Token) → Built top (state (HasPredicate p) h o) ks → Built top (state (WantsArgument p []) h o) (ks ++ Open ∷ [])
+arguments_built top p h o ks b = goes_on top (HasPredicate p) (WantsArgument p []) h o ks Open b
+    (b.pending.0, ([], (inl (refl, refl), ap (λ (xs : List Token). xs ++ Open ∷ []) b.pending.1)))
+
+predicate_goes_on : (top : ℕ) (p : Word) (h : Group) (o : List Group) (ks : List Token) (k : Token) → Built top (state (HasPredicate p) h o) ks → Next top (after_predicate p h o k) (ks ++ k ∷ [])
+predicate_goes_on top p h o ks Open b = arguments_built top p h o ks b
+predicate_goes_on top p h o ks k b = part_goes_on top (wrapped h.prefixes (Atom p [])) (group_of h.room [] h.begun) o ks k (at_part top (wrapped h.prefixes (Atom p [])) (group_of h.room [] h.begun) o ks (letter_built top p h o ks b))
+
+-- the arguments of an atomic sentence
 
 listing_more : (ts : List Term) (ks : List Token) (k : Token) (t : Term) → Listing ts ks → SpellsTerm k t → SpellsTerms (ks ++ k ∷ []) (ts ++ t ∷ [])
 listing_more ts ks k t (inl e) i =
@@ -201,61 +177,90 @@ listing_more ts ks k t (inl e) i =
     (subst (λ (us : List Term). SpellsTerms (k ∷ []) (us ++ t ∷ [])) (sym e.0) (last_term k t i))
 listing_more ts ks k t (inr (js, (r, e))) i =
     subst (λ (ls : List Token). SpellsTerms (ls ++ k ∷ []) (ts ++ t ∷ [])) (sym e)
-    (subst (λ (ls : List Token). SpellsTerms ls (ts ++ t ∷ [])) (sym (append_assoc js (comma ∷ []) (k ∷ []))) (terms_snoc r k t i))
+    (subst (λ (ls : List Token). SpellsTerms ls (ts ++ t ∷ [])) (sym (append_assoc js (Comma ∷ []) (k ∷ []))) (terms_snoc r k t i))
 
-name_built : (p : Word) (ts : List Term) (w : Word) (h : Group) (o : List Group) (ks : List Token) → Built (state (WantsArgument p ts) h o) ks → is_name w ≡ true → Built (state (HasArgument p (ts ++ Name w ∷ [])) h o) (ks ++ word w ∷ [])
-name_built p ts w h o ks b i =
+argument_built : (top : ℕ) (p : Word) (ts : List Term) (w : Word) (h : Group) (o : List Group) (ks : List Token) → Built top (state (WantsArgument p ts) h o) ks → (t : Term) → SpellsTerm (Identifier w) t → Built top (state (HasArgument p (ts ++ t ∷ [])) h o) (ks ++ Identifier w ∷ [])
+argument_built top p ts w h o ks b t i =
     let (q, (js, (listing, e))) = b.pending in
-    goes_on (WantsArgument p ts) (HasArgument p (ts ++ Name w ∷ [])) h o ks (word w) b
-    (q, (js ++ word w ∷ [], (listing_more ts js (word w) (Name w) listing (name w i), ap (λ (xs : List Token). xs ++ word w ∷ []) e)))
+    goes_on top (WantsArgument p ts) (HasArgument p (ts ++ t ∷ [])) h o ks (Identifier w) b
+    (q, (js ++ Identifier w ∷ [], (listing_more ts js (Identifier w) t listing i, ap (λ (xs : List Token). xs ++ Identifier w ∷ []) e)))
 
-name_goes_on : (p : Word) (ts : List Term) (h : Group) (o : List Group) (ks : List Token) (k : Token) → Built (state (WantsArgument p ts) h o) ks → Next (take_name p ts h o k) (ks ++ k ∷ [])
-name_goes_on p ts h o ks (word w) b = next_if (is_name w) (state (HasArgument p (ts ++ Name w ∷ [])) h o) (ks ++ word w ∷ []) (name_built p ts w h o ks b)
-name_goes_on p ts h o ks k b = tt
+argument_taken : (top : ℕ) (p : Word) (ts : List Term) (h : Group) (o : List Group) (ks : List Token) (k : Token) → Built top (state (WantsArgument p ts) h o) ks → Next top (take_argument p ts h o k) (ks ++ k ∷ [])
+argument_taken top p ts h o ks (Identifier w) b = next_term top w (λ t. state (HasArgument p (ts ++ t ∷ [])) h o) (ks ++ Identifier w ∷ []) (argument_built top p ts w h o ks b) (term_of w) refl
+argument_taken top p ts h o ks k b = tt
 
-comma_built : (p : Word) (ts : List Term) (h : Group) (o : List Group) (ks : List Token) → Built (state (HasArgument p ts) h o) ks → Built (state (WantsArgument p ts) h o) (ks ++ comma ∷ [])
-comma_built p ts h o ks b =
+comma_built : (top : ℕ) (p : Word) (ts : List Term) (h : Group) (o : List Group) (ks : List Token) → Built top (state (HasArgument p ts) h o) ks → Built top (state (WantsArgument p ts) h o) (ks ++ Comma ∷ [])
+comma_built top p ts h o ks b =
     let (q, (js, (r, e))) = b.pending in
-    goes_on (HasArgument p ts) (WantsArgument p ts) h o ks comma b
-    (q, (js ++ comma ∷ [], (inr (js, (r, refl)), ap (λ (xs : List Token). xs ++ comma ∷ []) e)))
+    goes_on top (HasArgument p ts) (WantsArgument p ts) h o ks Comma b
+    (q, (js ++ Comma ∷ [], (inr (js, (r, refl)), ap (λ (xs : List Token). xs ++ Comma ∷ []) e)))
 
-atom_built : (p : Word) (ts : List Term) (h : Group) (o : List Group) (ks : List Token) → Built (state (HasArgument p ts) h o) ks → Built (state (HasPart (Atom p ts)) h o) (ks ++ close_paren ∷ [])
-atom_built p ts h o ks b =
+atom_built : (top : ℕ) (p : Word) (ts : List Term) (h : Group) (o : List Group) (ks : List Token) → Built top (state (HasArgument p ts) h o) ks → Built top (finished (Atom p ts) h o) (ks ++ Close ∷ [])
+atom_built top p ts h o ks b =
     let (q, (js, (r, e))) = b.pending in
-    goes_on (HasArgument p ts) (HasPart (Atom p ts)) h o ks close_paren b
-    (subst (λ (xs : List Token). SpellsPart h.room (xs ++ close_paren ∷ []) (Atom p ts)) (sym e) (atom h.room p js ts q r))
+    completes top (HasArgument p ts) h o ks Close (Atom p ts) b
+    (subst (λ (xs : List Token). SpellsPart b.left (xs ++ Close ∷ []) (Atom p ts)) (sym e) (atom b.left p js ts q r))
 
-argument_goes_on : (p : Word) (ts : List Term) (h : Group) (o : List Group) (ks : List Token) (k : Token) → Built (state (HasArgument p ts) h o) ks → Next (after_argument p ts h o k) (ks ++ k ∷ [])
-argument_goes_on p ts h o ks comma b = comma_built p ts h o ks b
-argument_goes_on p ts h o ks close_paren b = atom_built p ts h o ks b
-argument_goes_on p ts h o ks k b = tt
+argument_goes_on : (top : ℕ) (p : Word) (ts : List Term) (h : Group) (o : List Group) (ks : List Token) (k : Token) → Built top (state (HasArgument p ts) h o) ks → Next top (after_argument p ts h o k) (ks ++ k ∷ [])
+argument_goes_on top p ts h o ks Comma b = comma_built top p ts h o ks b
+argument_goes_on top p ts h o ks Close b = atom_built top p ts h o ks b
+argument_goes_on top p ts h o ks k b = tt
 
-step_keeps : (m : Mode) (h : Group) (o : List Group) (ks : List Token) (k : Token) → Built (state m h o) ks → Next (step_in m h o k) (ks ++ k ∷ [])
-step_keeps WantsPart h o ks k b = begins h o ks k b
-step_keeps (HasPredicate p) h o ks k b = predicate_goes_on p h o ks k b
-step_keeps (WantsArgument p ts) h o ks k b = name_goes_on p ts h o ks k b
-step_keeps (HasArgument p ts) h o ks k b = argument_goes_on p ts h o ks k b
-step_keeps (HasPart s) h o ks k b = part_goes_on s h o ks k b
+-- equations
+
+relation_built : (top : ℕ) (a : Term) (r : Relation) (h : Group) (o : List Group) (ks : List Token) → Built top (state (HasLeft a) h o) ks → Built top (state (WantsRight a r) h o) (ks ++ relation_sign r ∷ [])
+relation_built top a r h o ks b =
+    let (k, (i, e)) = b.pending in
+    goes_on top (HasLeft a) (WantsRight a r) h o ks (relation_sign r) b (k, (i, ap (λ (xs : List Token). xs ++ relation_sign r ∷ []) e))
+
+left_goes_on : (top : ℕ) (a : Term) (h : Group) (o : List Group) (ks : List Token) (k : Token) → Built top (state (HasLeft a) h o) ks → Next top (after_left a h o k) (ks ++ k ∷ [])
+left_goes_on top a h o ks Equals b = relation_built top a Same h o ks b
+left_goes_on top a h o ks Unequal b = relation_built top a Different h o ks b
+left_goes_on top a h o ks k b = tt
+
+related_spelled : (n : ℕ) (r : Relation) (k j : Token) (a b : Term) → SpellsTerm k a → SpellsTerm j b → SpellsPart n (k ∷ relation_sign r ∷ j ∷ []) (related a r b)
+related_spelled n Same k j a b x y = equation n k j a b x y
+related_spelled n Different k j a b x y = inequation n k j a b x y
+
+right_built : (top : ℕ) (a : Term) (r : Relation) (w : Word) (h : Group) (o : List Group) (ks : List Token) → Built top (state (WantsRight a r) h o) ks → (t : Term) → SpellsTerm (Identifier w) t → Built top (finished (related a r t) h o) (ks ++ Identifier w ∷ [])
+right_built top a r w h o ks b t i =
+    let (k, (j, e)) = b.pending in
+    completes top (WantsRight a r) h o ks (Identifier w) (related a r t) b
+    (subst (λ (xs : List Token). SpellsPart b.left (xs ++ Identifier w ∷ []) (related a r t)) (sym e) (related_spelled b.left r k (Identifier w) a t j i))
+
+right_taken : (top : ℕ) (a : Term) (r : Relation) (h : Group) (o : List Group) (ks : List Token) (k : Token) → Built top (state (WantsRight a r) h o) ks → Next top (take_right a r h o k) (ks ++ k ∷ [])
+right_taken top a r h o ks (Identifier w) b = next_term top w (λ t. finished (related a r t) h o) (ks ++ Identifier w ∷ []) (right_built top a r w h o ks b) (term_of w) refl
+right_taken top a r h o ks k b = tt
+
+step_keeps : (top : ℕ) (m : Mode) (h : Group) (o : List Group) (ks : List Token) (k : Token) → Built top (state m h o) ks → Next top (step_in m h o k) (ks ++ k ∷ [])
+step_keeps top WantsPart h o ks k b = begins top h o ks k b
+step_keeps top (WantsVariable q) h o ks k b = variable_goes_on top q h o ks k b
+step_keeps top (HasPredicate p) h o ks k b = predicate_goes_on top p h o ks k b
+step_keeps top (WantsArgument p ts) h o ks k b = argument_taken top p ts h o ks k b
+step_keeps top (HasArgument p ts) h o ks k b = argument_goes_on top p ts h o ks k b
+step_keeps top (HasLeft a) h o ks k b = left_goes_on top a h o ks k b
+step_keeps top (WantsRight a r) h o ks k b = right_taken top a r h o ks k b
+step_keeps top (HasPart s) h o ks k b = part_goes_on top s h o ks k (at_part top s h o ks b)
 
 -- a token that is taken keeps what the state stands for
-pub step_built : (st next : State) (ks : List Token) (k : Token) → Built st ks → step st k ≡ Some next → Built next (ks ++ k ∷ [])
-step_built st next ks k b e = subst (λ (o : Option State). Next o (ks ++ k ∷ [])) e (step_keeps st.mode st.here st.outer ks k b)
+pub step_built : (top : ℕ) (st next : State) (ks : List Token) (k : Token) → Built top st ks → step st k ≡ Ok next → Built top next (ks ++ k ∷ [])
+step_built top st next ks k b e = subst (λ (o : Result State Refusal). Next top o (ks ++ k ∷ [])) e (step_keeps top st.mode st.here st.outer ks k b)
 
-abbrev Read : Option Sent → List Token → Type 0
-Read None ks = Unit {0}
-Read (Some s) ks = Spells 120 ks s
+abbrev Read : ℕ → Result Sent Refusal → List Token → Type 0
+Read top (Err refusal) ks = Unit {0}
+Read top (Ok s) ks = Spells top ks s
 
-last_spelled : (s : Sent) (h : Group) (ks : List Token) → Built (state (HasPart s) h []) ks → Spells 120 ks (whole h.parts s)
-last_spelled s h ks b =
-    let e : ks ≡ b.chain ++ b.now = b.all ∙ ap (λ (xs : List Token). xs ++ b.chain ++ b.now) b.inside.1 in
-    subst (λ (xs : List Token). Spells 120 xs (whole h.parts s)) (sym e)
-    (subst (λ (n : ℕ). Spells n (b.chain ++ b.now) (whole h.parts s)) b.inside.0 (whole_spelled h.room h.parts b.chain b.now s b.begun b.pending))
+last_spelled : (top : ℕ) (s : Sent) (h : Group) (ks : List Token) → AtPart top s h [] ks → Spells top ks (whole h.begun s)
+last_spelled top s h ks a =
+    let e : ks ≡ a.chain ++ a.now = a.all ∙ ap (λ (xs : List Token). xs ++ a.chain ++ a.now) a.inside.1 in
+    subst (λ (xs : List Token). Spells top xs (whole h.begun s)) (sym e)
+    (subst (λ (n : ℕ). Spells n (a.chain ++ a.now) (whole h.begun s)) a.inside.0 (whole_spelled h.room h.begun a.chain a.now s a.begun a.spells))
 
-end_keeps : (m : Mode) (h : Group) (o : List Group) (ks : List Token) → Built (state m h o) ks → Read (ended_in m h o) ks
-end_keeps (HasPart s) h [] ks b = last_spelled s h ks b
-end_keeps (HasPredicate p) h [] ks b = last_spelled (Atom p []) h ks (letter_built p h [] ks b)
-end_keeps m h o ks b = tt
+end_keeps : (top : ℕ) (m : Mode) (h : Group) (o : List Group) (ks : List Token) → Built top (state m h o) ks → Read top (ended_in m h o) ks
+end_keeps top (HasPart s) h [] ks b = last_spelled top s h ks (at_part top s h [] ks b)
+end_keeps top (HasPredicate p) h [] ks b = last_spelled top (wrapped h.prefixes (Atom p [])) (group_of h.room [] h.begun) ks (at_part top (wrapped h.prefixes (Atom p [])) (group_of h.room [] h.begun) [] ks (letter_built top p h [] ks b))
+end_keeps top m h o ks b = tt
 
 -- where a sentence is whole, the tokens spell it
-pub ended_spells : (st : State) (s : Sent) (ks : List Token) → Built st ks → ended st ≡ Some s → Spells 120 ks s
-ended_spells st s ks b e = subst (λ (o : Option Sent). Read o ks) e (end_keeps st.mode st.here st.outer ks b)
+pub ended_spells : (top : ℕ) (st : State) (s : Sent) (ks : List Token) → Built top st ks → ended st ≡ Ok s → Spells top ks s
+ended_spells top st s ks b e = subst (λ (o : Result Sent Refusal). Read top o ks) e (end_keeps top st.mode st.here st.outer ks b)

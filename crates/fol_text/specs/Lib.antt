@@ -1,4 +1,9 @@
 pub mod Tokens
 pub mod Grammar
-pub mod Small
+pub mod Occurrences
+pub mod Readable
+pub mod Refusals
+pub mod Printed
+pub mod Lexer
 pub mod Machine
+pub mod Bound

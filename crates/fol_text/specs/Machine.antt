@@ -1,141 +1,251 @@
 -- The reader as a machine: what it does at each token. This is how the code reads, and no definition of what a sentence
 -- is; that is the grammar, and the laws in proofs/ join the two.
-use Rattle.std.specs.Prelude.{◌≡◌, ℕ, ◌-◌, ◌==◌, List, [], ◌∷◌, ◌++◌, take, drop, Option, Some, None, Result, Ok, Err, if◌then◌else◌}
-use Rattle.std.specs.List.{prefix_len}
-use Rattle.fol_core.specs.Word.{Word, is_ident, goes_on, is_predicate, is_name}
+use Rattle.std.specs.Prelude.{◌≡◌, ◌⊎◌, ℕ, ◌-◌, nat_lt, List, [], ◌∷◌, ◌++◌, length, Option, Some, None, Result, Ok, Err, if◌then◌else◌}
+use Rattle.fol_core.specs.Word.{Word, is_predicate, is_variable, is_name}
 use Rattle.fol_core.specs.declared.sent.Term.{Term}
-use Rattle.fol_core.specs.declared.sent.Term.TheVariants.{Name}
+use Rattle.fol_core.specs.declared.sent.Term.TheVariants.{Var, Name}
 use Rattle.fol_core.specs.declared.sent.Sent.{Sent}
-use Rattle.fol_core.specs.declared.sent.Sent.TheVariants.{Atom, And}
-use Rattle.fol_text.specs.Tokens.{Token, and_sign, open_paren, close_paren, comma, word, sign_of}
-use Rattle.texts.specs.Blanks.{is_blank}
+use Rattle.fol_core.specs.declared.sent.Sent.TheVariants.{Atom, Eq, Bottom, Not, And, Or, If, Iff, All, Ex}
 use Rattle.fol_text.specs.declared.fault.ReadFault.{ReadFault}
-use Rattle.fol_text.specs.declared.fault.ReadFault.TheVariants.{NotYet, Memory}
-use Rattle.fol_text.specs.declared.token.Token.{Token as Kept}
-use Rattle.fol_text.specs.declared.token.Token.TheVariants as kept
-use Rattle.fol_text.specs.declared.machine.Mode.{Mode}
-use Rattle.fol_text.specs.declared.machine.Mode.TheVariants.{WantsPart, HasPredicate, WantsArgument, HasArgument, HasPart}
-use Rattle.fol_text.specs.declared.machine.Group.{Group}
-use Rattle.fol_text.specs.declared.machine.State.{State}
+use Rattle.fol_text.specs.declared.fault.ReadFault.TheVariants as read
+use Rattle.fol_text.specs.declared.fault.Refusal.{Refusal}
+use Rattle.fol_text.specs.declared.fault.Refusal.TheVariants.{Ambiguous, Unexpected, TooDeep, Memory}
+use Rattle.fol_text.specs.declared.token.Token.{Token}
+use Rattle.fol_text.specs.declared.token.Token.TheVariants.{NotSign, AndSign, OrSign, IfSign, IffSign, AllSign, ExistsSign, FalsumSign, Equals, Unequal, Open, Close, Comma, Identifier}
+use Rattle.fol_text.specs.declared.state.Quantifier.{Quantifier}
+use Rattle.fol_text.specs.declared.state.Quantifier.TheVariants.{Universal, Existential}
+use Rattle.fol_text.specs.declared.state.Prefix.{Prefix}
+use Rattle.fol_text.specs.declared.state.Prefix.TheVariants.{Negation, Quantified}
+use Rattle.fol_text.specs.declared.state.Relation.{Relation}
+use Rattle.fol_text.specs.declared.state.Relation.TheVariants.{Same, Different}
+use Rattle.fol_text.specs.declared.state.Begun.{Begun}
+use Rattle.fol_text.specs.declared.state.Begun.TheVariants.{Nothing, Conjunction, Disjunction, Conditional, Biconditional}
+use Rattle.fol_text.specs.declared.state.Mode.{Mode}
+use Rattle.fol_text.specs.declared.state.Mode.TheVariants.{WantsPart, WantsVariable, HasPredicate, WantsArgument, HasArgument, HasLeft, WantsRight, HasPart}
+use Rattle.fol_text.specs.declared.state.Group.{Group}
+use Rattle.fol_text.specs.declared.state.State.{State}
 
--- `NotYet` says that the machine gives nothing; want of memory says nothing of it.
-abbrev pub Refuses : {Y : Type 0} → ReadFault → Option Y → Type 0
-Refuses NotYet given = given ≡ None
+-- A refusal is the machine's; want of memory says nothing of it.
+abbrev pub Refuses : {Y : Type 0} → Refusal → Result Y Refusal → Type 0
 Refuses Memory given = Unit {0}
+Refuses refusal given = given ≡ Err refusal
 
--- What a function of the reader answered, seen by `view`, is what the machine gives, unless memory was refused.
-abbrev pub Gives : {X Y : Type 0} → (X → Y) → Result X ReadFault → Option Y → Type 0
-Gives view (Ok x) given = given ≡ Some (view x)
-Gives view (Err fault) given = Refuses fault given
+-- What a function of the reader answered is what the machine gives, unless memory was refused.
+abbrev pub Gives : {Y : Type 0} → Result Y Refusal → Result Y Refusal → Type 0
+Gives (Ok y) given = given ≡ Ok y
+Gives (Err refusal) given = Refuses refusal given
 
--- A value seen as it is.
-abbrev pub itself : {X : Type 0} → X → X
-itself x = x
+-- The value that a function of the reader left is what the machine gives, unless memory was refused.
+abbrev pub Leaves : {Y : Type 0} → Y → Result Unit Refusal → Result Y Refusal → Type 0
+Leaves y (Ok done) given = given ≡ Ok y
+Leaves y (Err refusal) given = Refuses refusal given
 
--- The token that the reader keeps.
-abbrev pub token_of : Kept → Token
-token_of kept.And = and_sign
-token_of kept.Open = open_paren
-token_of kept.Close = close_paren
-token_of kept.Comma = comma
-token_of (kept.Word w) = word w
+-- The fault that a refusal at this place is.
+abbrev pub at_place : Refusal → ℕ → ReadFault
+at_place Ambiguous n = read.Ambiguous n
+at_place Unexpected n = read.Unexpected n
+at_place TooDeep n = read.TooDeep n
+at_place Memory n = read.Memory
 
--- The sign at the front of the bytes, and the bytes after it.
-abbrev pub first_sign : List ℕ → Option (Token × List ℕ)
-first_sign [] = None
-first_sign (b ∷ bs) = elim (sign_of b) [ Some k ↦ Some (k, bs) | None ↦ None ]
+-- What a function of the reader answered at this place is what the machine gives, unless memory was refused.
+abbrev pub GivesAt : {Y : Type 0} → ℕ → Result Y ReadFault → Result Y Refusal → Type 0
+GivesAt n (Ok y) given = given ≡ Ok y
+GivesAt n (Err fault) given = (fault ≡ read.Memory) ⊎ ((refusal : Refusal) × ((given ≡ Err refusal) × (fault ≡ at_place refusal n)))
 
--- The token at the front of the bytes, and the bytes after it, where no blank stands first.
-unfoldable pub first_token : List ℕ → Option (Token × List ℕ)
-first_token bs = let n = prefix_len goes_on bs in if is_ident (take n bs) then Some (word (take n bs), drop n bs) else first_sign bs
+-- The value that a function of the reader left at this place is what the machine gives, unless memory was refused.
+abbrev pub LeavesAt : {Y : Type 0} → ℕ → Y → Result Unit ReadFault → Result Y Refusal → Type 0
+LeavesAt n y (Ok done) given = given ≡ Ok y
+LeavesAt n y (Err fault) given = (fault ≡ read.Memory) ⊎ ((refusal : Refusal) × ((given ≡ Err refusal) × (fault ≡ at_place refusal n)))
 
--- The bytes after a blank in front.
-abbrev pub after_blank : List ℕ → Option (List ℕ)
-after_blank [] = None
-after_blank (b ∷ bs) = if is_blank b then Some bs else None
+-- The group with this room, these prefixes and what is begun in it.
+abbrev pub group_of : ℕ → List Prefix → Begun → Group
+group_of n ps b = record { room = n; prefixes = ps; begun = b }
 
 -- The state with this mode, in this group, with these groups around it, the innermost first.
 abbrev pub state : Mode → Group → List Group → State
 state m h o = record { mode = m; here = h; outer = o }
 
--- The sentence of a group, from the parts that an `&` follows and the last one.
-unfoldable pub whole : List Sent → Sent → Sent
-whole [] s = s
-whole (p ∷ ps) s = And (p ∷ ps ++ s ∷ [])
+-- The part behind the prefixes, the innermost of which comes first.
+abbrev pub wrapped : List Prefix → Sent → Sent
+wrapped [] s = s
+wrapped (Negation ∷ ps) s = wrapped ps (Not s)
+wrapped (Quantified Universal x ∷ ps) s = wrapped ps (All x s)
+wrapped (Quantified Existential x ∷ ps) s = wrapped ps (Ex x s)
 
--- An opening parenthesis begins a group with one place less for further groups, where there is a place.
-abbrev pub open_group : Group → List Group → Option State
-open_group h o = if h.room == 0 then None else Some (state WantsPart (record { room = h.room - 1; parts = [] }) (h ∷ o))
+-- A part is complete, and with it all its prefixes.
+abbrev pub finished : Sent → Group → List Group → State
+finished s h o = state (HasPart (wrapped h.prefixes s)) (group_of h.room [] h.begun) o
+
+-- The conjunction of the parts and a last one; of the last one alone it is that one.
+unfoldable pub conjoined : List Sent → Sent → Sent
+conjoined [] s = s
+conjoined (p ∷ ps) s = And (p ∷ ps ++ s ∷ [])
+
+-- The same with the disjunction.
+unfoldable pub disjoined : List Sent → Sent → Sent
+disjoined [] s = s
+disjoined (p ∷ ps) s = Or (p ∷ ps ++ s ∷ [])
+
+-- The sentence of a group, from what is begun in it and its last part.
+abbrev pub whole : Begun → Sent → Sent
+whole Nothing s = s
+whole (Conjunction ps) s = conjoined ps s
+whole (Disjunction ps) s = disjoined ps s
+whole (Conditional p) s = If p s
+whole (Biconditional p) s = Iff p s
+
+-- What takes one of the room needs that there is some.
+abbrev pub with_room : Group → State → Result State Refusal
+with_room h st = if nat_lt (length h.prefixes) h.room then Ok st else Err TooDeep
+
+-- A `~` stands before the part that has to come.
+abbrev pub negated : Group → List Group → State
+negated h o = state WantsPart (group_of h.room (Negation ∷ h.prefixes) h.begun) o
+
+-- An opening parenthesis begins a group in the room that is left.
+abbrev pub open_group : Group → List Group → State
+open_group h o = state WantsPart (group_of (h.room - length h.prefixes - 1) [] Nothing) (h ∷ o)
 
 -- A closing parenthesis makes the group's sentence a part of the group around it.
-abbrev pub close_group : Sent → Group → List Group → Option State
-close_group s h [] = None
-close_group s h (g ∷ o) = Some (state (HasPart (whole h.parts s)) g o)
+abbrev pub close_group : Sent → Group → List Group → Result State Refusal
+close_group s h [] = Err Unexpected
+close_group s h (g ∷ o) = Ok (finished (whole h.begun s) g o)
 
--- Behind a part stands an `&` or the end of its group.
-abbrev pub after_part : Sent → Group → List Group → Token → Option State
-after_part s h o and_sign = Some (state WantsPart (record { room = h.room; parts = h.parts ++ s ∷ [] }) o)
-after_part s h o close_paren = close_group s h o
-after_part s h o _ = None
+-- An `&` behind a part begins a conjunction or goes on with one.
+abbrev pub conjoin : Sent → Begun → Result Begun Refusal
+conjoin s Nothing = Ok (Conjunction (s ∷ []))
+conjoin s (Conjunction ps) = Ok (Conjunction (ps ++ s ∷ []))
+conjoin s _ = Err Ambiguous
 
--- A part begins with a predicate or an opening parenthesis.
-abbrev pub begin_part : Group → List Group → Token → Option State
-begin_part h o (word w) = if is_predicate w then Some (state (HasPredicate w) h o) else None
-begin_part h o open_paren = open_group h o
-begin_part h o _ = None
+-- A `|` behind a part begins a disjunction or goes on with one.
+abbrev pub disjoin : Sent → Begun → Result Begun Refusal
+disjoin s Nothing = Ok (Disjunction (s ∷ []))
+disjoin s (Disjunction ps) = Ok (Disjunction (ps ++ s ∷ []))
+disjoin s _ = Err Ambiguous
+
+-- A `$` behind a part begins a conditional.
+abbrev pub imply : Sent → Begun → Result Begun Refusal
+imply s Nothing = Ok (Conditional s)
+imply s _ = Err Ambiguous
+
+-- A `%` behind a part begins a biconditional.
+abbrev pub equate : Sent → Begun → Result Begun Refusal
+equate s Nothing = Ok (Biconditional s)
+equate s _ = Err Ambiguous
+
+-- What is begun once a connective stands behind a part.
+abbrev pub begun_by : Sent → Begun → Token → Result Begun Refusal
+begun_by s b AndSign = conjoin s b
+begun_by s b OrSign = disjoin s b
+begun_by s b IfSign = imply s b
+begun_by s b IffSign = equate s b
+begun_by s b _ = Err Unexpected
+
+-- Behind a connective a part has to come.
+abbrev pub joined : Group → List Group → Result Begun Refusal → Result State Refusal
+joined h o (Ok b) = Ok (state WantsPart (group_of h.room h.prefixes b) o)
+joined h o (Err refusal) = Err refusal
+
+-- Behind a part stands a connective or the end of its group.
+abbrev pub after_part : Sent → Group → List Group → Token → Result State Refusal
+after_part s h o Close = close_group s h o
+after_part s h o k = joined h o (begun_by s h.begun k)
+
+-- The term that an identifier is, where it is one.
+abbrev pub term_of : Word → Option Term
+term_of w = if is_variable w then Some (Var w) else (if is_name w then Some (Name w) else None)
+
+-- The mode behind a term, where there is one.
+abbrev pub with_term : Option Term → (Term → State) → Result State Refusal
+with_term None next = Err Unexpected
+with_term (Some t) next = Ok (next t)
+
+-- A part that an identifier begins is an atomic sentence or an equation.
+abbrev pub begin_word : Word → Group → List Group → Result State Refusal
+begin_word w h o = if is_predicate w then Ok (state (HasPredicate w) h o) else with_term (term_of w) (λ t. state (HasLeft t) h o)
+
+-- A part begins with an identifier, falsum, a prefix or an opening parenthesis.
+abbrev pub begin_part : Group → List Group → Token → Result State Refusal
+begin_part h o (Identifier w) = begin_word w h o
+begin_part h o FalsumSign = Ok (finished Bottom h o)
+begin_part h o NotSign = with_room h (negated h o)
+begin_part h o AllSign = with_room h (state (WantsVariable Universal) h o)
+begin_part h o ExistsSign = with_room h (state (WantsVariable Existential) h o)
+begin_part h o Open = with_room h (open_group h o)
+begin_part h o _ = Err Unexpected
+
+-- Behind a quantifier's sign stands its variable.
+abbrev pub take_variable : Quantifier → Group → List Group → Token → Result State Refusal
+take_variable q h o (Identifier x) = if is_variable x then Ok (state WantsPart (group_of h.room (Quantified q x ∷ h.prefixes) h.begun) o) else Err Unexpected
+take_variable q h o _ = Err Unexpected
 
 -- Behind a predicate stands its first argument's parenthesis; else it is a sentence letter, and a part.
-abbrev pub after_predicate : Word → Group → List Group → Token → Option State
-after_predicate p h o open_paren = Some (state (WantsArgument p []) h o)
-after_predicate p h o k = after_part (Atom p []) h o k
+abbrev pub after_predicate : Word → Group → List Group → Token → Result State Refusal
+after_predicate p h o Open = Ok (state (WantsArgument p []) h o)
+after_predicate p h o k = after_part (wrapped h.prefixes (Atom p [])) (group_of h.room [] h.begun) o k
 
--- An argument is a name.
-abbrev pub take_name : Word → List Term → Group → List Group → Token → Option State
-take_name p ts h o (word w) = if is_name w then Some (state (HasArgument p (ts ++ Name w ∷ [])) h o) else None
-take_name p ts h o _ = None
+-- An argument is a term.
+abbrev pub take_argument : Word → List Term → Group → List Group → Token → Result State Refusal
+take_argument p ts h o (Identifier w) = with_term (term_of w) (λ t. state (HasArgument p (ts ++ t ∷ [])) h o)
+take_argument p ts h o _ = Err Unexpected
 
 -- Behind an argument stands a comma or the closing parenthesis.
-abbrev pub after_argument : Word → List Term → Group → List Group → Token → Option State
-after_argument p ts h o comma = Some (state (WantsArgument p ts) h o)
-after_argument p ts h o close_paren = Some (state (HasPart (Atom p ts)) h o)
-after_argument p ts h o _ = None
+abbrev pub after_argument : Word → List Term → Group → List Group → Token → Result State Refusal
+after_argument p ts h o Comma = Ok (state (WantsArgument p ts) h o)
+after_argument p ts h o Close = Ok (finished (Atom p ts) h o)
+after_argument p ts h o _ = Err Unexpected
+
+-- Behind the left term of an equation stands `=` or `#`.
+abbrev pub after_left : Term → Group → List Group → Token → Result State Refusal
+after_left a h o Equals = Ok (state (WantsRight a Same) h o)
+after_left a h o Unequal = Ok (state (WantsRight a Different) h o)
+after_left a h o _ = Err Unexpected
+
+-- The equation of two terms, or its negation.
+abbrev pub related : Term → Relation → Term → Sent
+related a Same b = Eq a b
+related a Different b = Not (Eq a b)
+
+-- The right term completes the equation.
+abbrev pub take_right : Term → Relation → Group → List Group → Token → Result State Refusal
+take_right a r h o (Identifier w) = with_term (term_of w) (λ b. finished (related a r b) h o)
+take_right a r h o _ = Err Unexpected
 
 -- One token, by the mode.
-abbrev pub step_in : Mode → Group → List Group → Token → Option State
+abbrev pub step_in : Mode → Group → List Group → Token → Result State Refusal
 step_in WantsPart h o k = begin_part h o k
+step_in (WantsVariable q) h o k = take_variable q h o k
 step_in (HasPredicate p) h o k = after_predicate p h o k
-step_in (WantsArgument p ts) h o k = take_name p ts h o k
+step_in (WantsArgument p ts) h o k = take_argument p ts h o k
 step_in (HasArgument p ts) h o k = after_argument p ts h o k
+step_in (HasLeft a) h o k = after_left a h o k
+step_in (WantsRight a r) h o k = take_right a r h o k
 step_in (HasPart s) h o k = after_part s h o k
 
 -- The state after one more token, where some sentence goes on so.
-abbrev pub step : State → Token → Option State
+abbrev pub step : State → Token → Result State Refusal
 step st k = step_in st.mode st.here st.outer k
 
 -- Outside all groups a part ends the sentence.
-abbrev pub ended_in : Mode → Group → List Group → Option Sent
-ended_in (HasPart s) h [] = Some (whole h.parts s)
-ended_in (HasPredicate p) h [] = Some (whole h.parts (Atom p []))
-ended_in _ h _ = None
+abbrev pub ended_in : Mode → Group → List Group → Result Sent Refusal
+ended_in (HasPart s) h [] = Ok (whole h.begun s)
+ended_in (HasPredicate p) h [] = Ok (whole h.begun (wrapped h.prefixes (Atom p [])))
+ended_in _ h _ = Err Unexpected
 
 -- The sentence, where the text ends here.
-abbrev pub ended : State → Option Sent
+abbrev pub ended : State → Result Sent Refusal
 ended st = ended_in st.mode st.here st.outer
 
--- Before the first token.
-abbrev pub begin : State
-begin = state WantsPart (record { room = 120; parts = [] }) []
+-- Before the first token, with this room.
+abbrev pub begin : ℕ → State
+begin room = state WantsPart (group_of room [] Nothing) []
+
+-- The state that some more tokens lead to.
+abbrev pub reach : State → List Token → Result State Refusal
+reach st [] = Ok st
+reach st (k ∷ ks) = elim (step st k) [ Ok next ↦ reach next ks | Err refusal ↦ Err refusal ]
 
 -- The sentence that the tokens spell from here on.
-abbrev pub go : State → List Token → Option Sent
+abbrev pub go : State → List Token → Result Sent Refusal
 go st [] = ended st
-go st (k ∷ ks) = elim (step st k) [ Some next ↦ go next ks | None ↦ None ]
-
--- What is left behind one token, with the state that it leads to.
-abbrev pub onward : State → Option (Token × List ℕ) → Option (State × List ℕ)
-onward st None = None
-onward st (Some f) = elim (step st f.0) [ Some next ↦ Some (next, f.1) | None ↦ None ]
-
--- One turn of the reader: a blank is passed over, a token is taken.
-unfoldable pub turn : State → List ℕ → Option (State × List ℕ)
-turn st bs = elim (after_blank bs) [ Some rest ↦ Some (st, rest) | None ↦ onward st (first_token bs) ]
+go st (k ∷ ks) = elim (step st k) [ Ok next ↦ go next ks | Err refusal ↦ Err refusal ]

@@ -1,16 +1,21 @@
-//! The text of sentences: their tokens, their grammar, and a reader that is exact by it.
+//! The text of sentences: their tokens, their grammar, a reader that is exact by it, and a printer that it reads back.
 #![tactic(auto)]
 
 mod fault;
+mod joining;
+mod lexer;
 mod machine;
-mod places;
+mod marks;
+mod print;
 mod read;
 mod stack;
+mod state;
 mod token;
 mod word;
 
 pub use fault::ReadFault;
-pub use read::{read_sentence, spelled_once};
+pub use print::print_sentence;
+pub use read::{read_sentence, refused_once, spelled_once};
 
 #[cfg(test)]
 mod tests;

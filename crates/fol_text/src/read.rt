@@ -1,77 +1,149 @@
-ghost use Rattle.std.specs.Prelude.{◌≡◌, ◌⊎◌, ◌↔◌, List, ℕ, Ok, Err, IfOk, IsTrue};
+ghost use Rattle.std.specs.Prelude.{◌≡◌, ◌<◌, ◌⊎◌, ℕ, List, [], length, false, Ok, Err, IfOk, IfErr};
 ghost use Rattle.fol_core.specs.declared.sent.Sent.{Sent as Sentence};
 ghost use Rattle.fol_core.specs.Size.{within_limits};
-ghost use Rattle.fol_text.specs.Tokens.{Token as Sign, AreTokens};
+ghost use Rattle.fol_text.specs.declared.fault.ReadFault.{ReadFault as Fault};
+ghost use Rattle.fol_text.specs.Tokens.{tokens_of};
 ghost use Rattle.fol_text.specs.Grammar.{Spells};
-ghost use Rattle.fol_text.specs.Small.{IsSmall};
-ghost use Rattle.fol_text.specs.Machine.{Gives, turn as turn_of};
+ghost use Rattle.fol_text.specs.Readable.{SpellsText, IsReadable, IsFit};
+ghost use Rattle.fol_text.specs.Refusals.{IsRefused, IsStopped, IsUnfit, limit_fault};
+ghost use Rattle.fol_text.specs.Occurrences.{first_false as first_false_of, fitting as fitting_of, boundness as boundness_of, predicate_places as predicate_places_of, term_places as term_places_of};
+ghost use Rattle.fol_text.specs.Machine.{GivesAt, LeavesAt, step as step_of, ended as ended_of};
 
 use crate::fault::ReadFault;
-use crate::machine::State;
-use crate::places::has_places;
-use crate::token::{after_blank, first_token};
-use fol_core::{Sent, is_closed, within};
-use std::alloc::Global;
+use crate::lexer::tokens;
+use crate::marks::{boundness, first_false, fitting, predicate_places, term_places};
+use crate::state::State;
+use crate::token::Placed;
+use fol_core::{Sent, SentFault, within};
+use std::alloc::{AllocError, Global};
 
 /// How many bytes a sentence's text may have.
 const MOST_BYTES: usize = 4000;
 
-/// The sentence that the text spells: atoms whose terms are names, joined by `&`, with parentheses. The text has at most
-/// 4,000 bytes, the sentence a depth of at most 60 and at most 400 nodes, and each predicate of the blocks language its
-/// number of places. `NotYet` is the answer to every other text; `Memory` says only that memory was refused.
+/// The sentence that the text spells. It is closed, has at most a depth of 60 and 400 nodes, and each predicate of the
+/// blocks language has its number of places. The text has at most 4,000 bytes, and at most 120 parentheses, `~` and
+/// quantifiers are pending at any token. Else the answer is the first refusal. `Memory` says only that memory was refused.
+///
+/// # Requirements
+///
+/// The text has fewer than 2^32 bytes, so that a place in it is a `u32`.
 pub fn read_sentence(alloc: Global, text: &[u8]) -> Result<Sent, ReadFault>
+    requires { length text.now < 4294967296 }
+
     // What is read is what the text spells.
-    ensures read { IfOk result (λ s. IsSmall text.now s) }
+    ensures read { IfOk result (λ s. IsReadable text.now s) }
 
     // What the text spells is read, unless memory is refused.
-    ensures exact { (s : Sentence) → IsSmall text.now s → (result ≡ Ok s) ⊎ (result ≡ Err ReadFault.Memory) }
-    ensures not_yet { result ≡ Err ReadFault.NotYet → (s : Sentence) → IsSmall text.now s → ⊥ }
+    ensures exact { (s : Sentence) → IsReadable text.now s → (result ≡ Ok s) ⊎ (result ≡ Err ReadFault.Memory) }
+
+    // Else the fault is the first refusal.
+    ensures refused { IfErr result (λ fault. (fault ≡ ReadFault.Memory) ⊎ IsRefused text.now fault) }
 {
     if text.len() > MOST_BYTES {
-        return Err(ReadFault::NotYet);
+        return Err(ReadFault::TooLong(text.len() as u32));
     }
-    let sentence = spelled(alloc, text)?;
-    if has_places(&sentence) && is_closed(&sentence) && is_within(&sentence) {
-        return Ok(sentence);
-    }
-    Err(ReadFault::NotYet)
+    let tokens = tokens(alloc, text)?;
+    let sentence = spelled(alloc, tokens.as_slice(), text.len() as u32)?;
+    fit(alloc, tokens.as_slice(), &sentence)?;
+    Ok(sentence)
 }
 
-/// A text spells at most one sentence.
+/// A text spells at most one sentence by the grammar.
 pub fn spelled_once()
-    ensures once { (text : List ℕ) → (s : Sentence) → (t : Sentence) → IsSmall text s → IsSmall text t → s ≡ t }
+    ensures once { (text : List ℕ) → (s : Sentence) → (t : Sentence) → SpellsText text s → SpellsText text t → s ≡ t }
 {}
 
-/// The sentence that the text spells by the grammar, whatever its length and size.
-fn spelled(alloc: Global, text: &[u8]) -> Result<Sent, ReadFault>
-    ensures read { IfOk result (λ s. (ks : List Sign) × (AreTokens text.now ks × Spells 120 ks s)) }
-    ensures only { IfOk result (λ s. (ks : List Sign) → (t : Sentence) → AreTokens text.now ks → Spells 120 ks t → t ≡ s) }
-    ensures not_yet { result ≡ Err ReadFault.NotYet → (ks : List Sign) → (t : Sentence) → AreTokens text.now ks → Spells 120 ks t → ⊥ }
+/// Each text is readable or has a first refusal, never both, and never two.
+pub fn refused_once()
+    ensures some { (text : List ℕ) → ((s : Sentence) × IsReadable text s) ⊎ ((fault : Fault) × IsRefused text fault) }
+    ensures once { (text : List ℕ) → (fault : Fault) → (other : Fault) → IsRefused text fault → IsRefused text other → fault ≡ other }
+    ensures readable { (text : List ℕ) → (s : Sentence) → (fault : Fault) → IsReadable text s → IsRefused text fault → ⊥ }
+{}
+
+/// The sentence that the tokens spell by the grammar, or the first refusal of a token or of the end, whose place is given.
+fn spelled(alloc: Global, tokens: &[Placed], end: u32) -> Result<Sent, ReadFault>
+    ensures read { IfOk result (λ s. Spells 120 (tokens_of tokens.now) s) }
+    ensures fault { IfErr result (λ fault. (fault ≡ ReadFault.Memory) ⊎ IsStopped end tokens.now fault) }
 {
-    let mut rest = text;
     let mut state = State::new(alloc);
-    while !rest.is_empty() {
-        (state, rest) = turn(alloc, state, rest)?;
+    for placed in tokens {
+        turn(alloc, &mut state, placed)?;
     }
-    state.ended(alloc)
+    ended(alloc, state, end)
 }
 
-/// Passes over a blank in front of the bytes, or takes the token there.
-#[tactic(auto, unfolding(crate::specs::Machine::turn))]
-fn turn(alloc: Global, state: State, rest: &[u8]) -> Result<(State, &[u8]), ReadFault>
-    ensures value { Gives (λ found. (found.0, found.1.now)) result (turn_of state rest.now) }
+/// Takes one more token.
+fn turn(alloc: Global, state: &mut State, placed: &Placed) -> Result<(), ReadFault>
+    ensures value { LeavesAt placed.now.place state.new result (step_of state.old placed.now.token) }
 {
-    if let Some(after) = after_blank(rest) {
-        return Ok((state, after));
+    let token = placed.token.copied(alloc)?;
+    match state.step(alloc, token) {
+        Ok(()) => Ok(()),
+        Err(refusal) => Err(refusal.at(placed.place)),
     }
-    let (token, after) = first_token(alloc, rest)?;
-    let state = state.step(alloc, token)?;
-    Ok((state, after))
+}
+
+/// The sentence, where the text ends here.
+fn ended(alloc: Global, state: State, end: u32) -> Result<Sent, ReadFault>
+    ensures value { GivesAt end result (ended_of state) }
+{
+    match state.ended(alloc) {
+        Ok(sentence) => Ok(sentence),
+        Err(refusal) => Err(refusal.at(end)),
+    }
+}
+
+/// Whether the sentence that the tokens spell is within the limits, its block predicates have their places, and its
+/// variables are bound. The fault is the first of these that fails.
+fn fit(alloc: Global, tokens: &[Placed], sentence: &Sent) -> Result<(), ReadFault>
+    requires { Spells 120 (tokens_of tokens.now) sentence.now }
+    ensures fits { result ≡ Ok tt → IsFit sentence.now }
+    ensures fault { IfErr result (λ fault. (fault ≡ ReadFault.Memory) ⊎ IsUnfit tokens.now sentence.now fault) }
+{
+    are_limits_kept(sentence)?;
+    if let Some(place) = wrong_predicate(alloc, tokens, sentence)? {
+        return Err(ReadFault::BlockArity(place));
+    }
+    if let Some(place) = free_variable(alloc, tokens, sentence)? {
+        return Err(ReadFault::FreeVariable(place));
+    }
+    Ok(())
 }
 
 /// Whether the sentence is within the limits of depth and of nodes.
-fn is_within(s: &Sent) -> bool
-    ensures value { IsTrue result ↔ (within_limits s.now ≡ Ok tt) }
+fn are_limits_kept(sentence: &Sent) -> Result<(), ReadFault>
+    ensures value { result ≡ limit_fault (within_limits sentence.now) }
 {
-    within(s).is_ok()
+    match within(sentence) {
+        Ok(()) => Ok(()),
+        Err(SentFault::TooDeep) => Err(ReadFault::TooDeep(0)),
+        Err(SentFault::TooMany) => Err(ReadFault::TooMany(0)),
+        Err(SentFault::Memory) => Err(ReadFault::Memory),
+    }
+}
+
+/// The place of the first predicate of the blocks language with another number of places.
+fn wrong_predicate(
+    alloc: Global,
+    tokens: &[Placed],
+    sentence: &Sent,
+) -> Result<Option<u32>, AllocError>
+    ensures value { IfOk result (λ place. place ≡ first_false_of (fitting_of sentence.now) (predicate_places_of tokens.now)) }
+{
+    let places = predicate_places(alloc, tokens)?;
+    let marks = fitting(alloc, sentence)?;
+    Ok(first_false(marks.as_slice(), places.as_slice()))
+}
+
+/// The place of the first free variable.
+fn free_variable(
+    alloc: Global,
+    tokens: &[Placed],
+    sentence: &Sent,
+) -> Result<Option<u32>, AllocError>
+    ensures value { IfOk result (λ place. place ≡ first_false_of (boundness_of sentence.now []) (term_places_of false tokens.now)) }
+{
+    let places = term_places(alloc, tokens)?;
+    let marks = boundness(alloc, sentence)?;
+    Ok(first_false(marks.as_slice(), places.as_slice()))
 }

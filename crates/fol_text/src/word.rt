@@ -1,8 +1,9 @@
 ghost use Rattle.std.specs.Prelude.{◌≡◌};
 ghost use Rattle.std.specs.List.{list_all};
-ghost use Rattle.fol_core.specs.Word.{is_digit as digit, is_predicate as predicate, is_name as name, begins_with_capital as capital, spells_variable as variable};
+ghost use Rattle.fol_core.specs.Word.{is_digit as digit, is_predicate as predicate, is_variable as variable, is_name as name, begins_with_capital as capital, spells_variable as spelled_as_variable};
+ghost use Rattle.fol_text.specs.Machine.{term_of as term};
 
-use fol_core::Ident;
+use fol_core::{Ident, Term};
 
 /// Whether the identifier is a predicate.
 #[tactic(auto, unfolding(fol_core::specs::Word::is_predicate))]
@@ -12,12 +13,33 @@ pub(crate) fn is_predicate(word: &Ident) -> bool
     begins_with_capital(word.as_slice())
 }
 
+/// Whether the identifier is a variable.
+#[tactic(auto, unfolding(fol_core::specs::Word::is_variable))]
+pub(crate) fn is_variable(word: &Ident) -> bool
+    ensures value { result ≡ variable word.now }
+{
+    spells_variable(word.as_slice())
+}
+
 /// Whether the identifier is a name, which is no variable.
 #[tactic(auto, unfolding(fol_core::specs::Word::is_name))]
-pub(crate) fn is_name(word: &Ident) -> bool
+fn is_name(word: &Ident) -> bool
     ensures value { result ≡ name word.now }
 {
     !begins_with_capital(word.as_slice()) && !spells_variable(word.as_slice())
+}
+
+/// The term that the identifier is, where it is one.
+pub(crate) fn term_of(word: Ident) -> Option<Term>
+    ensures value { result ≡ term word }
+{
+    if is_variable(&word) {
+        Some(Term::Var(word))
+    } else if is_name(&word) {
+        Some(Term::Name(word))
+    } else {
+        None
+    }
 }
 
 /// Whether the word begins with a capital letter.
@@ -29,7 +51,7 @@ fn begins_with_capital(word: &[u8]) -> bool
 
 /// Whether the word is a letter from t to z with four digits at most behind it.
 fn spells_variable(word: &[u8]) -> bool
-    ensures value { result ≡ variable word.now }
+    ensures value { result ≡ spelled_as_variable word.now }
 {
     match word {
         [] => false,

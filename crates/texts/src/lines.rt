@@ -1,5 +1,6 @@
-ghost use Rattle.std.specs.Prelude.{◌≡◌, ◌↔◌, ◌<◌, [], ◌∷◌, length, IsNone, IfSome};
+ghost use Rattle.std.specs.Prelude.{◌≡◌, ◌↔◌, ◌<◌, ◌≤◌, [], ◌∷◌, length, IsNone, IfSome};
 ghost use Rattle.std.specs.Str.Lines.{lines, strip_carriage_return};
+ghost use Rattle.texts.specs.Lines.{IsFirstLine};
 
 use crate::cuts::cut;
 
@@ -11,6 +12,8 @@ pub fn next_line(text: &[u8]) -> Option<(&[u8], &[u8])>
     ensures none { IsNone result ↔ (text.now ≡ []) }
     ensures line { IfSome result (λ p. lines text.now ≡ p.0.now ∷ lines p.1.now) }
     ensures shorter { IfSome result (λ p. length p.1.now < length text.now) }
+    ensures first { IfSome result (λ p. IsFirstLine text.now p.0.now p.1.now) }
+    ensures within { IfSome result (λ p. length p.0.now ≤ length text.now) }
 {
     if text.is_empty() {
         return None;

@@ -1,3 +1,4 @@
 pub mod Transferring
-pub mod Checking
+pub mod CheckReplies
+pub mod Answering
 pub mod Telling

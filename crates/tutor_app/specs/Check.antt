@@ -1,13 +1,15 @@
--- The command `check`: the task and the proof that the input writes are judged.
-use Rattle.std.specs.Prelude.{◌≡◌, ℕ, List, [], ◌∷◌, ◌++◌, codes}
+-- The command `check`: the proof that the input writes is judged for the task that it writes.
+use Rattle.std.specs.Prelude.{ℕ, List, [], ◌∷◌, codes, drop}
 use Rattle.std.specs.declared.option.Option.{Option}
-use Rattle.std.specs.Fmt.{decimal}
 use Rattle.deriv_laws.specs.Derivable.{Der}
-use Rattle.small_proof.specs.Form.{IsWritten}
-use Rattle.small_proof.specs.Judged.{IsVerdict}
-use Rattle.small_proof.specs.declared.form.SmallForm.{SmallForm}
-use Rattle.small_proof.specs.declared.form.Verdict.{Verdict}
-use Rattle.small_proof.specs.declared.form.Verdict.TheVariants.{Correct, Wrong, Unreadable}
+use Rattle.fitch_file.specs.declared.task.TaskText.{TaskText}
+use Rattle.fitch_file.specs.declared.fault.TaskFault.{TaskFault}
+use Rattle.fitch_file.specs.TaskText.{SpellsTask}
+use Rattle.fitch_file.specs.TaskFaults.{IsFirstTaskFault}
+use Rattle.proof_check.specs.declared.verdict.Verdict.{Verdict}
+use Rattle.proof_check.specs.declared.verdict.Verdict.TheVariants.{Correct}
+use Rattle.proof_check.specs.Judged.{IsVerdict}
+use Rattle.tutor_app.specs.Report.{unreadable_reply, verdict_reply, task_text}
 use Rattle.tutor_app.specs.Transfer.{ReadsAll}
 use Rattle.tutor_app.specs.declared.tool.Reply.{Reply}
 
@@ -15,23 +17,18 @@ use Rattle.tutor_app.specs.declared.tool.Reply.{Reply}
 abbrev pub check_words : List (List ℕ)
 check_words = codes "check" ∷ []
 
--- a printed line
-abbrev pub line : List ℕ → List ℕ
-line text = text ++ 10 ∷ []
+-- The reply to these bytes: they write no task, and the reply names the first fault of the task text; or they write a
+-- task, and the reply has the verdict on the proof text behind it.
+pub data check_answers : List ℕ → Reply → Type 0 where
+  faulty_task : (bytes : List ℕ) (n : ℕ) (fault : TaskFault) → IsFirstTaskFault bytes n fault → check_answers bytes (unreadable_reply n (task_text fault))
+  judged_proof : (bytes : List ℕ) (t : TaskText) (verdict : Verdict) → SpellsTask bytes t.task t.lines t.rest → IsVerdict t.task (drop t.rest bytes) verdict → check_answers bytes (verdict_reply t.lines verdict)
 
--- What is printed of a verdict, and the status that goes with it.
-abbrev pub reply_of : Verdict → Reply
-reply_of Correct = record { code = 0; text = line (codes "correct") }
-reply_of (Wrong number) = record { code = 1; text = line (codes "wrong line " ++ decimal number) }
-reply_of Unreadable = record { code = 3; text = line (codes "unreadable") }
-
--- The reply to these bytes is that of their verdict.
-abbrev pub check_answers : List ℕ → Reply → Type 0
-check_answers bytes reply = (verdict : Verdict) × IsVerdict bytes verdict × (reply ≡ reply_of verdict)
-
--- These bytes write a task and a proof, and the goal has a natural-deduction tree from the premises.
-abbrev pub ShowsTree : List ℕ → Type 0
-ShowsTree bytes = (form : SmallForm) × IsWritten bytes form × Der form.premises form.goal
+-- These bytes write a task and a correct proof for it, and the goal has a natural-deduction tree from the premises.
+pub record ShowsTree (bytes : List ℕ) : Type 0 where
+  pub text : TaskText
+  pub spells : SpellsTask bytes text.task text.lines text.rest
+  pub correct : IsVerdict text.task (drop text.rest bytes) Correct
+  pub derivable : Der text.task.premises text.task.goal
 
 -- The input was read to its end, and it shows a natural-deduction tree for its goal.
 abbrev pub ReadsTree : Option (List ℕ) → Option (List ℕ) → Type 0

@@ -1,13 +1,18 @@
-ghost use Rattle.std.specs.Prelude.{◌≡◌, IfOk};
-ghost use Rattle.tutor_app.specs.Check.{check_answers, reply_of};
+ghost use Rattle.std.specs.Prelude.{◌≡◌, ◌≤◌, length, drop, IfOk};
+ghost use Rattle.proof_check.specs.Judged.{IsVerdict};
+ghost use Rattle.proof_check.specs.declared.verdict.Verdict.{Verdict as Judgement};
+ghost use Rattle.tutor_app.specs.Transfer.{input_limit};
+ghost use Rattle.tutor_app.specs.Report.{verdict_reply as reply_of};
+ghost use Rattle.tutor_app.specs.Check.{check_answers};
 ghost use Rattle.tutor_app.specs.CheckLaws.{check_known, check_only};
 
+use crate::report::{task_reply, verdict_reply};
 use crate::tool::{Reply, Tool};
-use edge_io::Bytes;
-use small_proof::{Verdict, judge};
+use fitch_file::{TaskText, read_task};
+use proof_check::check_proof;
 use std::alloc::{AllocError, Global};
 
-/// The command `check`: judges a task and a proof.
+/// The command `check`: reads a task, and judges the proof that follows it.
 pub struct Check;
 
 impl Tool for Check {
@@ -18,30 +23,20 @@ impl Tool for Check {
     ghost only = { λ _ bytes r q is also. check_only bytes r q is also };
 
     fn answer(&self, alloc: Global, input: &[u8]) -> Result<Reply, AllocError> {
-        let verdict = judge(alloc, input)?;
-        reply_to(alloc, verdict)
+        match read_task(alloc, input) {
+            Ok(text) => judge(alloc, &text, input),
+            Err((line, fault)) => task_reply(alloc, line, fault),
+        }
     }
 }
 
-/// What is printed of the verdict, with its status.
-fn reply_to(alloc: Global, verdict: Verdict) -> Result<Reply, AllocError>
-    ensures reply { IfOk result (λ reply. reply ≡ reply_of verdict) }
+/// The reply to an input that begins with this task text.
+fn judge(alloc: Global, text: &TaskText, input: &[u8]) -> Result<Reply, AllocError>
+    requires within { length input.now ≤ input_limit }
+    requires rest { text.now.rest ≤ length input.now }
+    ensures judged { IfOk result (λ reply. (v : Judgement) × IsVerdict text.now.task (drop text.now.rest input.now) v × (reply ≡ reply_of text.now.lines v)) }
 {
-    match verdict {
-        Verdict::Correct => Ok(Reply {
-            code: 0,
-            text: Bytes::from_slice(alloc, b"correct\n")?,
-        }),
-        Verdict::Wrong(number) => {
-            let text = format!(in alloc; "wrong line {number}\n")?;
-            Ok(Reply {
-                code: 1,
-                text: Bytes::from_vec(text.into_bytes()),
-            })
-        }
-        Verdict::Unreadable => Ok(Reply {
-            code: 3,
-            text: Bytes::from_slice(alloc, b"unreadable\n")?,
-        }),
-    }
+    let proof = &input[text.rest as usize..];
+    let verdict = check_proof(alloc, &text.task, proof)?;
+    verdict_reply(alloc, text.lines, &verdict)
 }

@@ -2,6 +2,7 @@
 #![tactic(auto)]
 
 mod check;
+mod report;
 mod tool;
 mod transfer;
 mod tutor;

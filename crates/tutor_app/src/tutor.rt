@@ -91,4 +91,6 @@ fn run_tool<T: Tool, S: Source, W: Sink>(
 }
 
 #[cfg(test)]
+mod cuts;
+#[cfg(test)]
 mod tests;

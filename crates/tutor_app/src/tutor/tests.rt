@@ -31,7 +31,7 @@ const PLAIN: Case<'static> = Case {
     writes_fail: &[],
     room: 1_000,
     code: 3,
-    taken: b"unreadable\n",
+    taken: b"unreadable line 1: Header\n",
     left: 0,
 };
 
@@ -115,7 +115,7 @@ const CASES: [Case<'static>; 14] = [
     },
 ];
 
-fn words_of(alloc: Global, texts: &[&str]) -> Result<Words, AllocError> {
+pub(super) fn words_of(alloc: Global, texts: &[&str]) -> Result<Words, AllocError> {
     let mut words = Words::new(alloc);
     for text in texts {
         words.add(Bytes::from_slice(alloc, text.as_bytes())?)?;
@@ -149,37 +149,91 @@ fn ends_as_the_words_the_length_and_the_edges_say(rt: HostRuntime) -> Result<(),
     Ok(())
 }
 
-/// The swap of conjuncts, with the lines that follow its first one.
-fn swap_with(alloc: Global, lines: &str) -> Result<String, AllocError> {
-    format!(in alloc;
-        "task 1\npremise Cube(a) & Tet(b)\ngoal Tet(b) & Cube(a)\nproof 1\n1 | Cube(a) & Tet(b) ; Premise\n{lines}"
-    )
-}
+/// An input, its exit status, and the line that is printed.
+const JUDGED: [(&str, u8, &str); 15] = [
+    (
+        "task 1\npremise Cube(a) & Tet(b)\ngoal Tet(b) & Cube(a)\nproof 1\n1 | Cube(a) & Tet(b) ; Premise\n2 | Tet(b) ; & Elim: 2\n3 | Cube(a) ; & Elim: 1\n4 | Tet(b) & Cube(a) ; & Intro: 2, 3\n",
+        1,
+        "wrong line 2: NotVisible 1\n",
+    ),
+    (
+        "task 1\ngoal P $ P\nproof 1\n1 | | P ; Assume\n2 | P $ P ; $ Intro: 1-1\n",
+        0,
+        "correct\n",
+    ),
+    (
+        "task 1\npremise ~P & ~Q\ngoal ~(P | Q)\nproof 1\n1 | ~P & ~Q ; Premise\n2 | | P | Q ; Assume\n3 | | | P ; Assume\n4 | | | ~P ; & Elim: 1\n5 | | | ^ ; ^ Intro: 3, 4\n6 | | | Q ; Assume\n7 | | | ~Q ; & Elim: 1\n8 | | | ^ ; ^ Intro: 6, 7\n9 | | ^ ; | Elim: 2, 3-5, 6-8\n10 | ~(P | Q) ; ~ Intro: 2-9\n",
+        0,
+        "correct\n",
+    ),
+    (
+        "task 1\r\npremise ¬P ∧ ¬Q\r\ngoal ¬(P ∨ Q)\r\nproof 1\r\n1 | ¬P ∧ ¬Q ; Premise\r\n2 | | P ∨ Q ; Assume\r\n3 | | | P ; Assume\r\n4 | | | ¬P ; ∧ Elim: 1\r\n5 | | | ⊥ ; ⊥ Intro: 3, 4\r\n6 | | | Q ; Assume\r\n7 | | | ¬Q ; ∧ Elim: 1\r\n8 | | | ⊥ ; ⊥ Intro: 6, 7\r\n9 | | ⊥ ; ∨ Elim: 2, 3-5, 6-8\r\n10 | ¬(P ∨ Q) ; ¬ Intro: 2-9\r\n",
+        0,
+        "correct\n",
+    ),
+    (
+        "task 1\npremise A | B\ngoal A\ncon Taut\nproof 1\n1 | A | B ; Premise\n2 | A ; Reit: 1\n",
+        1,
+        "wrong line 2: NotFollows\n",
+    ),
+    (
+        "task 1\npremise A | B\ngoal A\nproof 1\n1 | A | B ; Premise\n2 | A ; Taut Con: 1\n",
+        1,
+        "wrong line 2: RuleNotAllowed\n",
+    ),
+    (
+        "task 1\npremise A\ngoal B\nproof 1\n1 | B ; Premise\n",
+        1,
+        "wrong line 1: NotAPremise\n",
+    ),
+    (
+        "task 1\npremise A\ngoal A\nproof 1\n1 | A ; Premise\n2 | A ; Reit: 1, 1\n",
+        1,
+        "wrong line 2: CiteCount\n",
+    ),
+    (
+        "task 1\npremise A\ngoal A\nproof 1\n1 | A ; Premise\n2 | A ; Reit: 1-1\n",
+        1,
+        "wrong line 2: WrongKind 1\n",
+    ),
+    (
+        "task 1\npremise A\ngoal A\nproof 1\n1 | | A ; Assume\n",
+        1,
+        "wrong line 0: GoalNotReached\n",
+    ),
+    (
+        "task 1\npremise A\npremise A & B | C\ngoal A\n",
+        3,
+        "unreadable line 3: Sentence Ambiguous 6\n",
+    ),
+    ("task 1\n\n\nproof 1\n", 3, "unreadable line 2: NoGoal\n"),
+    (
+        "task 1\ngoal A\n\nproof 1\n1 | A & ; Reit: 1\n",
+        3,
+        "unreadable line 5: Sentence Unexpected 3\n",
+    ),
+    (
+        "task 1\ngoal A\ngoal A\nproof 1\n",
+        3,
+        "unreadable line 3: Form\n",
+    ),
+    (
+        "task 1\ngoal A\nproof 2\n",
+        3,
+        "unreadable line 3: Header\n",
+    ),
+];
 
 #[test]
 fn prints_the_verdict(rt: HostRuntime) -> Result<(), Fail> {
     let alloc = rt.alloc();
     let words = words_of(alloc, &["check"])?;
-    for (lines, code, printed) in [
-        (
-            "2 | Tet(b) ; & Elim: 1\n3 | Cube(a) ; & Elim: 1\n4 | Tet(b) & Cube(a) ; & Intro: 2, 3\n",
-            0,
-            "correct\n",
-        ),
-        (
-            "2 | Tet(b) ; & Elim: 2\n3 | Cube(a) ; & Elim: 1\n4 | Tet(b) & Cube(a) ; & Intro: 2, 3\n",
-            1,
-            "wrong line 2\n",
-        ),
-        ("", 1, "wrong line 1\n"),
-        ("\n", 3, "unreadable\n"),
-    ] {
-        let text = swap_with(alloc, lines)?;
+    for (text, code, line) in JUDGED {
         let mut input = MemSource::new(alloc, text.as_bytes(), 7, &[])?;
         let mut output = MemSink::new(alloc, 100, 3, &[])?;
         let status = tutor(alloc, &words, &mut input, &mut output);
-        assert_eq!(rt; status.code, code);
-        assert_eq!(rt; output.taken(), printed.as_bytes());
+        assert_eq!(rt; status.code, code, "{text}");
+        assert_eq!(rt; output.taken(), line.as_bytes(), "{text}");
     }
     Ok(())
 }

@@ -2,19 +2,20 @@ use Rattle.std.proofs.Common.{◌≡◌, ◌+◌, ◌<◌, length, take, Ok, sym
 use Rattle.std.specs.List.{flat_map}
 use Rattle.deriv_laws.specs.declared.tree.Tree.{out-Tree}
 use Rattle.deriv_laws.specs.Trees.{nodes, node_at}
-use Rattle.deriv_laws.specs.Accepted.{Accepted, IsScan, IsFirstBad}
+use Rattle.deriv_laws.specs.Scan.{IsScan, IsFirstBad}
+use Rattle.deriv_laws.specs.Valid.{Meets}
 use Rattle.deriv_laws.proofs.Lists.{part_within}
 use Rattle.deriv_laws.proofs.Scanning.{count_out, root_bad, root_counts, root_later, bad_within, bad_part, scan_more}
 use Rattle.deriv_laws.proofs.check.+scan.Goals as goal
 
-pub scan-returns-then-not-accepts : goal.scan-returns-then-not-accepts
-scan-returns-then-not-accepts t c = record { scanned = λ h. root_bad c.args.tree.now (search rules) }
+pub scan-returns-then-not-meets : goal.scan-returns-then-not-meets
+scan-returns-then-not-meets t c = record { scanned = λ h. root_bad c.args.tree.now (search rules) }
 
 pub scan-returns-in-Ok : goal.scan-returns-in-Ok
 scan-returns-in-Ok t c = record {
   scanned = λ h.
       let count = count_out c.args.tree.now in
-      let root : Accepted (node_at c.args.tree.now) = search rules in
+      let root : Meets (node_at c.args.tree.now) = search rules in
       let below : IsScan (flat_map nodes (out-Tree c.args.tree.now).parts) (Ok c.in-Ok.count) =
       subst (λ ts. length (flat_map nodes ts) < 4294967296 → IsScan (flat_map nodes ts) (Ok c.in-Ok.count)) c.as_slice.ensures.value c.in-Ok.ensures.scanned (omega arith) in
       let e : c.saturating_add.result ≡ c.in-Ok.count + 1 = omega (arith, below.1) in
@@ -25,7 +26,7 @@ pub scan-returns-in-Err : goal.scan-returns-in-Err
 scan-returns-in-Err t c = record {
   scanned = λ h.
       let count = count_out c.args.tree.now in
-      let root : Accepted (node_at c.args.tree.now) = search rules in
+      let root : Meets (node_at c.args.tree.now) = search rules in
       let below : IsFirstBad (flat_map nodes (out-Tree c.args.tree.now).parts) c.in-Err.place =
       subst (λ ts. length (flat_map nodes ts) < 4294967296 → IsFirstBad (flat_map nodes ts) c.in-Err.place) c.as_slice.ensures.value c.in-Err.ensures.scanned (omega arith) in
       let e : c.saturating_add-in-Err.result ≡ c.in-Err.place + 1 = omega (arith, bad_within (flat_map nodes (out-Tree c.args.tree.now).parts) c.in-Err.place below) in

@@ -1,7 +1,7 @@
 use Rattle.std.proofs.Common.{◌<◌, take, length, Ok}
 use Rattle.std.specs.List.{flat_map}
 use Rattle.deriv_laws.specs.Trees.{nodes}
-use Rattle.deriv_laws.specs.Accepted.{IsScan}
+use Rattle.deriv_laws.specs.Scan.{IsScan}
 use Rattle.deriv_laws.proofs.check.+scan.Given as goal
 
 abbrev pub invariant-scan_all-loop-part : goal.invariant-scan_all-loop-part

@@ -3,7 +3,7 @@ use Rattle.deriv_laws.specs.declared.tree.TreeFault.TheVariants as fault
 use Rattle.deriv_laws.specs.Trees.{nodes}
 use Rattle.deriv_laws.specs.Valid.{IsValid}
 use Rattle.deriv_laws.proofs.Lists.{if_ok}
-use Rattle.deriv_laws.proofs.Scanning.{bad_within, bad_unique, none_bad, accepted_valid}
+use Rattle.deriv_laws.proofs.Scanning.{bad_within, bad_unique, none_bad}
 use Rattle.deriv_laws.proofs.check.check_tree.Goals as goal
 
 pub overflow_add-result : goal.overflow_add-result
@@ -12,7 +12,7 @@ overflow_add-result c =
     omega arith
 
 pub returns-in-Ok-clause-valid : goal.returns-in-Ok-clause-valid
-returns-in-Ok-clause-valid c = if_ok c.map_err.result (IsValid c.args.tree.now) (accepted_valid c.args.tree.now (c.in-Ok.ensures.scanned c.requires).0)
+returns-in-Ok-clause-valid c = if_ok c.map_err.result (IsValid c.args.tree.now) ((c.in-Ok.ensures.scanned c.requires).0)
 
 pub returns-in-Ok-clause-refused : goal.returns-in-Ok-clause-refused
 returns-in-Ok-clause-refused c = λ j b. absurd (none_bad (nodes c.args.tree.now) j (c.in-Ok.ensures.scanned c.requires).0 b)

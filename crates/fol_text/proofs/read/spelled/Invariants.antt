@@ -1,9 +1,7 @@
-use Rattle.std.proofs.Common.{length}
-use Rattle.fol_text.proofs.Reading.{Reading}
+use Rattle.std.proofs.Common.{take}
+use Rattle.fol_text.specs.Tokens.{tokens_of}
+use Rattle.fol_text.proofs.Stopping.{Leads}
 use Rattle.fol_text.proofs.read.spelled.Given as goal
 
-abbrev pub invariant-loop-rest : goal.invariant-loop-rest
-invariant-loop-rest l = Reading l.fn.text l.state l.rest
-
-abbrev pub decreases-loop-rest : goal.decreases-loop-rest
-decreases-loop-rest l = length l.rest
+abbrev pub invariant-loop-placed : goal.invariant-loop-placed
+invariant-loop-placed l = Leads (tokens_of (take l.placed-index l.tokens)) l.state

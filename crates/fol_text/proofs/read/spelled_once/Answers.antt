@@ -1,5 +1,5 @@
-use Rattle.fol_text.proofs.SmallTexts.{small_once}
+use Rattle.fol_text.proofs.Reading.{spells_once}
 use Rattle.fol_text.proofs.read.spelled_once.Goals as goal
 
 pub returns : goal.returns
-returns c = record { once = small_once }
+returns c = record { once = spells_once }

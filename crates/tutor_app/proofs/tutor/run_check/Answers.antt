@@ -1,4 +1,4 @@
-use Rattle.tutor_app.proofs.Checking.{reads_tree}
+use Rattle.tutor_app.proofs.CheckReplies.{reads_tree}
 use Rattle.tutor_app.proofs.tutor.run_check.Goals as goal
 
 pub returns-clause-proved : goal.returns-clause-proved

@@ -1,0 +1,37 @@
+-- Justified lines: what soundness needs of the tests.
+use Rattle.std.specs.Prelude.{IsTrue, List, Contains, Option, Some, None, IfSome}
+use Rattle.fol_core.specs.declared.sent.Sent.{Sent}
+use Rattle.fol_core.specs.Closed.{closed}
+use Rattle.deriv_laws.specs.declared.rule.Rule.{Rule}
+use Rattle.deriv_laws.specs.declared.rule.Rule.TheVariants as r
+use Rattle.deriv_laws.specs.declared.line.FlatLine.{FlatLine}
+use Rattle.nested_proofs.specs.Scope.{cited_sentences, cited_subproofs}
+use Rattle.nested_proofs.specs.Placed.{Around, Placed}
+use Rattle.nested_proofs.specs.Rules.{Follows, StaysArbitrary}
+use Rattle.nested_proofs.specs.Fresh.{HasFreshBox}
+
+-- What a consequence rule says of the cited sentences, in their order, and the line's own.
+abbrev pub Consequence : Type 1
+Consequence = Rule → List Sent → Sent → Type 0
+
+-- The line, with this rule and this sentence or none, is justified by what its cites find. This is less
+-- than that it fails no test: a cite that finds nothing is passed over, and cites aren't counted.
+abbrev pub IsJustifiedBy : Consequence → List Sent → Around → FlatLine → Rule → Option Sent → Type 0
+IsJustifiedBy con premises a line r.Premise (Some s) = Contains premises s
+IsJustifiedBy con premises a line r.Assume s = HasFreshBox premises a line.boxed
+IsJustifiedBy con premises a line r.BoxOnly s = HasFreshBox premises a line.boxed
+IsJustifiedBy con premises a line r.TautCon (Some s) = con r.TautCon (cited_sentences a.scope line.cites) s
+IsJustifiedBy con premises a line r.FoCon (Some s) = con r.FoCon (cited_sentences a.scope line.cites) s
+IsJustifiedBy con premises a line r.AnaCon (Some s) = con r.AnaCon (cited_sentences a.scope line.cites) s
+IsJustifiedBy con premises a line rule (Some s) =
+    Follows rule (cited_sentences a.scope line.cites) (cited_subproofs a.scope line.cites) s
+    × StaysArbitrary rule (cited_sentences a.scope line.cites) (cited_subproofs a.scope line.cites) s
+IsJustifiedBy con premises a line rule None = ⊥
+
+-- The placed line is justified.
+abbrev pub IsJustified : Consequence → List Sent → Placed → Type 0
+IsJustified con premises x = IsJustifiedBy con premises x.around x.line x.line.rule x.line.sentence
+
+-- The line's sentence, where it has one, is closed.
+abbrev pub HasClosed : Placed → Type 0
+HasClosed x = IfSome x.line.sentence (λ s. IsTrue (closed s))

@@ -1,0 +1,17 @@
+pub mod Items
+pub mod Scope
+pub mod Placed
+pub mod Rules
+pub mod Fresh
+pub mod CiteTests
+pub mod Justified
+pub mod Faults
+pub mod Soundness
+pub mod Levels
+pub mod Visible
+pub mod Nesting
+pub mod Limits
+pub mod Enclosing
+pub mod AtLine
+pub mod FollowsAt
+pub mod ReadOff

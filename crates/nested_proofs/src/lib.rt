@@ -1,0 +1,23 @@
+//! Nested Fitch proofs: their scope, the tests of their lines, their soundness, and how all of this
+//! is read off flat lines.
+#![tactic(auto)]
+
+mod cites;
+mod count;
+mod laws;
+mod lines;
+mod nesting;
+mod read_off;
+mod shape;
+#[cfg(test)]
+mod tests;
+mod visibility;
+
+pub use cites::cites_ok;
+pub use count::{Count, takes_lines, takes_subproofs, wants_box};
+pub use laws::{nesting_laws, soundness_laws, visibility_laws};
+pub use lines::{Lines, MOST_LINES};
+pub use nesting::{level, opens};
+pub use read_off::{cited_conclusion, cited_sentence};
+pub use shape::{are_in_form, is_shaped};
+pub use visibility::{line_visible, sub_visible};

@@ -1,0 +1,4 @@
+pub mod Failing
+pub mod Judged
+pub mod Laws
+pub mod Readers

@@ -1,0 +1,14 @@
+//! Fitch proofs are checked: a proof text is correct for a task, or it has a first fault.
+#![tactic(auto)]
+
+mod check;
+mod ending;
+mod laws;
+mod line;
+#[cfg(test)]
+mod tests;
+mod verdict;
+
+pub use check::check_proof;
+pub use laws::verdict_laws;
+pub use verdict::{LineFault, Verdict};
