@@ -1,6 +1,6 @@
 #!/bin/sh
 # Times `./tutor check` beside `cat` on proofs of growing length, up to one near the limits of 2,000 lines and 262,144
-# bytes, for three shapes of proofs (see proof.sh). Prints a row for each: lines, bytes, milliseconds of a run of `cat`
+# bytes, for four shapes of proofs (see proof.sh). Prints a row for each: lines, bytes, milliseconds of a run of `cat`
 # and of `check`, and the answer. check.sh RUNS takes the mean of that many runs, 20 where none is given.
 set -eu
 here=$(cd "$(dirname "$0")" && pwd)
@@ -26,7 +26,7 @@ milliseconds() {
 }
 
 "$tutor" > /dev/null || true # builds the program where it isn't there
-for shape in blocks terms nested; do
+for shape in blocks terms nested boxed; do
     printf '%s\n%6s %8s %8s %8s  %s\n' "$shape" lines bytes cat check answer
     for lines in 250 502 1000 1999; do
         sh "$here/proof.sh" "$lines" 78 "$shape" > "$input"

@@ -3,7 +3,8 @@
 # `blocks` and `terms` take two sentences of about WIDTH bytes out of their conjunction and join them again, over and
 # over: conjunctions of sentences about blocks, or atomic sentences with as many names as fit, which have the most tokens a
 # byte. `nested` opens subproofs to depth 29, repeats line 1 in the innermost, and closes one after another by conditional
-# introduction, over and over; it takes no heed of WIDTH.
+# introduction, over and over; it takes no heed of WIDTH. `boxed` opens a boxed constant, takes the instance of line 1, a
+# sentence of about WIDTH bytes, and generalizes it again, over and over.
 exec awk -v lines="$1" -v width="$2" -v shape="${3:-blocks}" '
 function atom(letter,    text) {
     text = letter "(a"
@@ -49,8 +50,22 @@ function flat(left, right, both,    line) {
         print line + 2 " | " both " ; & Intro: " line ", " line + 1
     }
 }
+function boxed(    body, general, line) {
+    body = "P(x)"
+    while (length(body) + 10 < width) body = body " & R(x,x)"
+    general = "@x (" body ")"
+    heading(general, general)
+    print "1 | " general " ; Premise"
+    gsub("x", "c", body)
+    for (line = 2; line + 2 <= lines; line += 3) {
+        print line " | | [c] ; Box"
+        print line + 1 " | | " body " ; @ Elim: 1"
+        print line + 2 " | " general " ; @ Intro: " line "-" line + 1
+    }
+}
 BEGIN {
     if (shape == "nested") nested()
+    else if (shape == "boxed") boxed()
     else if (shape == "terms") flat(atom("P"), atom("Q"), atom("P") " & " atom("Q"))
     else flat(conjunction("Cube(a)"), conjunction("Tet(b)"), \
         "(" conjunction("Cube(a)") ") & (" conjunction("Tet(b)") ")")

@@ -49,8 +49,3 @@ nodes_out t =
 pub open_other_at : (rule : Rule) (n : Node) → (rule ≡ r.Assume → ⊥) → open_at (record n { rule = rule }) ≡ joined n.opens (discharged rule n.boxed n.concls n.sentence)
 open_other_at r.Assume n h = absurd (h refl)
 open_other_at _ n h = refl
-
--- where nothing is discharged, the lists of the parts are joined as they are
-pub joined_none : (ts : List Tree) → joined (map undischarged ts) [] ≡ flat_map undischarged ts
-joined_none [] = refl
-joined_none (t ∷ ts) = ap (λ ss. undischarged t ++ ss) (joined_none ts)

@@ -37,13 +37,6 @@ pub part_within : {X Y : Type 0} (f : X → List Y) (xs : List X) (i : ℕ) (x :
     length (flat_map f (take i xs)) + length (f x) ≤ length (flat_map f xs)
 part_within f xs i x h e = omega (arith, flat_take f xs (i + 1), ap length (flat_more f xs i x h e), length-append (flat_map f (take i xs)) (f x))
 
--- what holds throughout a joined list holds throughout the part that one member adds
-pub all_part : {X Y : Type 0} (P : Y → Type 0) (f : X → List Y) (xs : List X) (i : ℕ) (x : X) → i < length xs → x ≡ get_or xs i x →
-    AllByRecursion P (flat_map f xs) → AllByRecursion P (f x)
-all_part P f [] i x h e a = absurd (omega arith)
-all_part P f (y ∷ xs) zero x h e a = rw e (all_left P (f y) (flat_map f xs) a)
-all_part P f (y ∷ xs) (suc i) x h e a = all_part P f xs i x (omega arith) e (all_right P (f y) (flat_map f xs) a)
-
 -- what a success brings, turned into what follows from it
 pub on_ok : {A E : Type 0} (r : Result A E) (P Q : Type 0) → (P → Q) → OnOk r P → OnOk r Q
 on_ok (Ok a) P Q f h = f h

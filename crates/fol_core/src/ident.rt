@@ -54,7 +54,7 @@ impl Ident {
 }
 
 /// Whether the two are one identifier, byte by byte.
-pub(crate) fn same_ident(a: &Ident, b: &Ident) -> bool
+pub fn same_ident(a: &Ident, b: &Ident) -> bool
     ensures value { result ≡ bytes_eq a.now b.now }
     ensures equal { IsTrue result ↔ (a.now ≡ b.now) }
 {

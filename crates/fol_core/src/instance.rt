@@ -1,4 +1,4 @@
-ghost use Rattle.std.specs.Prelude.{◌≡◌, ◌↔◌, IsTrue, map, MatchOption};
+ghost use Rattle.std.specs.Prelude.{◌≡◌, ◌↔◌, IsTrue, map, MatchOption, true};
 ghost use Rattle.fol_core.specs.Word.{Word};
 ghost use Rattle.std.specs.Option.{option_copied};
 ghost use Rattle.fol_core.specs.Subst.{subst_name, subst_where, subst_term};
@@ -20,6 +20,7 @@ pub fn is_instance(q: &Sent, x: &Ident, n: &Ident, s: &Sent) -> bool
 /// If `s` is any instance of `q`, it is the one by this name; without a name, it is the instance by each name.
 pub fn instance_name<'a>(q: &Sent, x: &Ident, s: &'a Sent) -> Option<&'a Ident>
     ensures alone { (n : Word) → s.now ≡ subst_name x.now n q.now → MatchOption result ((m : Word) → s.now ≡ subst_name x.now m q.now) (λ name. name.now ≡ n) }
+    ensures read { option_copied result ≡ name_where x.now q.now true s.now }
 {
     instance_name_at(q, x, true, s)
 }

@@ -20,7 +20,7 @@ mod tests_of_names;
 pub use alike::{contains, same};
 pub use closed::is_closed;
 pub use copies::copy;
-pub use ident::Ident;
+pub use ident::{Ident, same_ident};
 pub use instance::{instance_name, is_instance, is_some_instance};
 pub use occurrence::occurs;
 pub use replacement::replaces;

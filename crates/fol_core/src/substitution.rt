@@ -48,20 +48,8 @@ fn put_into(
         )),
         Sent::Bottom => Ok(Sent::Bottom),
         Sent::Not(a) => Ok(Sent::Not(put_into_boxed(alloc, a.get(), var, name, free)?)),
-        Sent::And(parts) => Ok(Sent::And(Several::of(put_into_all(
-            alloc,
-            parts.as_slice(),
-            var,
-            name,
-            free,
-        )?))),
-        Sent::Or(parts) => Ok(Sent::Or(Several::of(put_into_all(
-            alloc,
-            parts.as_slice(),
-            var,
-            name,
-            free,
-        )?))),
+        Sent::And(parts) => Ok(Sent::And(put_into_all(alloc, parts, var, name, free)?)),
+        Sent::Or(parts) => Ok(Sent::Or(put_into_all(alloc, parts, var, name, free)?)),
         Sent::If(a, b) => Ok(Sent::If(
             put_into_boxed(alloc, a.get(), var, name, free)?,
             put_into_boxed(alloc, b.get(), var, name, free)?,
@@ -98,18 +86,18 @@ fn put_into_boxed(
 #[cycle(subst)]
 fn put_into_all(
     alloc: Global,
-    parts: &[Sent],
+    parts: &Several<Sent>,
     var: &Ident,
     name: &Ident,
     free: bool,
-) -> Result<Sents, AllocError>
+) -> Result<Several<Sent>, AllocError>
     ensures value { IfOk result (λ put. put ≡ map (λ s. subst_where var.now name.now s free) parts.now) }
 {
     let mut done: Sents = Listed::new(alloc);
-    for part in parts {
+    for part in parts.as_slice() {
         done.add(put_into(alloc, part, var, name, free)?)?;
     }
-    Ok(done)
+    Ok(Several::of(done))
 }
 
 fn put_into_terms(

@@ -63,7 +63,7 @@ keep_both : (rank : FlatLine → ℕ) (u v : ℕ) (m : Mark) (ms : List Mark) (b
 keep_both rank u v m ms true e h ih = ap (λ xs. cond (nat_le (rank m.line) u) (m ∷ xs) xs) ih
 keep_both rank u v m ms false e h ih = ih ∙ sym (drops rank u m ms (omega (arith, leb-false (rank m.line) v e)))
 
-kept_twice : (rank : FlatLine → ℕ) (u v : ℕ) (ms : List Mark) → u ≤ v → in_reach rank u (in_reach rank v ms) ≡ in_reach rank u ms
+pub kept_twice : (rank : FlatLine → ℕ) (u v : ℕ) (ms : List Mark) → u ≤ v → in_reach rank u (in_reach rank v ms) ≡ in_reach rank u ms
 kept_twice rank u v [] h = refl
 kept_twice rank u v (m ∷ ms) h = keep_both rank u v m ms (nat_le (rank m.line) v) refl h (kept_twice rank u v ms h)
 

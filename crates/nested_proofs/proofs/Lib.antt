@@ -20,3 +20,4 @@ pub mod CiteFaults
 pub mod AsRead
 pub mod AtCited
 pub mod Conclusions
+pub mod Silence

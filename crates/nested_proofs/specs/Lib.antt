@@ -12,6 +12,8 @@ pub mod Visible
 pub mod Nesting
 pub mod Limits
 pub mod Enclosing
+pub mod Hearing
 pub mod AtLine
 pub mod FollowsAt
+pub mod StaysAt
 pub mod ReadOff

@@ -4,6 +4,9 @@
 
 mod cites;
 mod count;
+mod fresh;
+#[cfg(test)]
+mod fresh_tests;
 mod laws;
 mod lines;
 mod nesting;
@@ -15,6 +18,7 @@ mod visibility;
 
 pub use cites::cites_ok;
 pub use count::{Count, takes_lines, takes_subproofs, wants_box};
+pub use fresh::fresh_at;
 pub use laws::{nesting_laws, soundness_laws, visibility_laws};
 pub use lines::{Lines, MOST_LINES};
 pub use nesting::{level, opens};

@@ -4,13 +4,12 @@ use Rattle.std.proofs.lemmas.Bool.{cases_lt}
 use Rattle.std.proofs.Math.Nat.{eq-or-lt_of_le}
 use Rattle.std.specs.List.{AllByRecursion}
 use Rattle.fol_core.specs.declared.sent.Sent.{Sent}
-use Rattle.fol_core.specs.Word.{Word}
 use Rattle.deriv_laws.specs.declared.line.FlatLine.{FlatLine}
 use Rattle.deriv_laws.proofs.Lists.{all_turn}
 use Rattle.deriv_laws.proofs.Members.{all_each, contains_cases}
 use Rattle.nested_proofs.specs.Items.{Items, flatten}
 use Rattle.nested_proofs.specs.Placed.{Placed, lines_of, outside}
-use Rattle.nested_proofs.specs.Faults.{Failure, IsFirstFailure}
+use Rattle.nested_proofs.specs.Faults.{Failure}
 use Rattle.nested_proofs.proofs.OneFailure.{one_first_failure}
 use Rattle.nested_proofs.proofs.OneProof.{one_proof}
 use Rattle.nested_proofs.proofs.VisibleSentences.{numbers, placed_numbers}
@@ -22,23 +21,21 @@ use Rattle.proof_check.specs.declared.verdict.LineFault.{LineFault}
 use Rattle.proof_check.specs.declared.verdict.LineFault.TheVariants.{GoalNotReached}
 use Rattle.proof_check.specs.declared.verdict.Verdict.{Verdict}
 use Rattle.proof_check.specs.declared.verdict.Verdict.TheVariants.{Wrong, Unreadable}
-use Rattle.proof_check.specs.Failing.{is_allowed, no_answers, IsFailureWith, IsLineFault, Passes, fault_of}
+use Rattle.proof_check.specs.Failing.{is_allowed, no_answers, IsLineFailure, IsLineFault, Passes, fault_of}
 use Rattle.proof_check.specs.Laws.{OneVerdict}
 use Rattle.proof_check.specs.Judged.{AllPass, FailsFirst, IsJudged, is_correct, fails_first, misses_goal, of_proof, of_faulty}
 
 -- a line has at most one first failure
-one_failure : (premises : List Sent) (x : Placed) (c : Option Word) (o q : Option (Failure LineFault)) →
-    IsFailureWith c (λ f. IsFirstFailure is_allowed no_answers premises x f) o → IsFailureWith c (λ f. IsFirstFailure is_allowed no_answers premises x f) q → o ≡ q
-one_failure premises x (Some c) o q h k = h ∙ sym k
-one_failure premises x None o q h k = one_first_failure is_allowed no_answers premises x o q (λ rule ps s a b f g. absurd f) h k
+one_failure : (premises : List Sent) (x : Placed) (o q : Option (Failure LineFault)) → IsLineFailure premises x o → IsLineFailure premises x q → o ≡ q
+one_failure premises x o q h k = one_first_failure is_allowed no_answers premises x o q (λ rule ps s a b f g. absurd f) h k
 
 -- and at most one fault
 one_fault : (premises : List Sent) (x : Placed) (o q : Option LineFault) → IsLineFault premises x o → IsLineFault premises x q → o ≡ q
 one_fault premises x None None h k = refl
-one_fault premises x None (Some g) h (e, l, i) = let f = one_failure premises x x.line.boxed None (Some e) h l in cc
-one_fault premises x (Some g) None (e, l, i) k = let f = one_failure premises x x.line.boxed (Some e) None l k in cc
+one_fault premises x None (Some g) h (e, l, i) = let f = one_failure premises x None (Some e) h l in cc
+one_fault premises x (Some g) None (e, l, i) k = let f = one_failure premises x (Some e) None l k in cc
 one_fault premises x (Some f) (Some g) (d, h, i) (e, l, j) =
-    let n : d ≡ e = (let m = one_failure premises x x.line.boxed (Some d) (Some e) h l in cc) in
+    let n : d ≡ e = (let m = one_failure premises x (Some d) (Some e) h l in cc) in
     ap Some (i ∙ ap fault_of n ∙ sym j)
 
 numbers_above : (k : ℕ) (xs : List Placed) (ls : List FlatLine) → map (λ (x : Placed). x.number) xs ≡ numbers k ls → AllByRecursion (λ (x : Placed). k ≤ x.number) xs

@@ -1,15 +1,12 @@
 -- A correct proof shows that the goal is derivable from the premises.
-use Rattle.std.proofs.Common.{◌≡◌, ◌≢◌, ◌⊎◌, inl, inr, Err, ℕ, ◌+◌, List, [], ◌∷◌, ◌++◌, map, refl, sym, subst, Option, Some, None, IsTrue, append-nil, Ok, Result, IfOk, IfSome}
+use Rattle.std.proofs.Common.{◌≡◌, ◌≢◌, ◌⊎◌, inl, inr, Err, ℕ, List, [], ◌∷◌, ◌++◌, map, refl, sym, subst, Option, Some, None, IsTrue, append-nil, Ok, Result, IfOk, IfSome}
 use Rattle.std.specs.List.{AllByRecursion}
 use Rattle.fol_core.specs.declared.sent.Sent.{Sent}
 use Rattle.fol_core.specs.Closed.{closed}
-use Rattle.fol_core.specs.Word.{Word}
 use Rattle.deriv_laws.specs.declared.line.FlatLine.{FlatLine}
 use Rattle.deriv_laws.specs.Derivable.{Der}
-use Rattle.deriv_laws.proofs.Lists.{all_turn}
 use Rattle.nested_proofs.specs.Items.{Items, flatten}
 use Rattle.nested_proofs.specs.Placed.{Placed, lines_of, outside}
-use Rattle.nested_proofs.specs.Faults.{IsFirstFailure}
 use Rattle.nested_proofs.proofs.Soundness.{faultless_proof_shows}
 use Rattle.nested_proofs.proofs.VisibleSentences.{placed_lines}
 use Rattle.fitch_file.specs.Line.{IsStated}
@@ -24,7 +21,7 @@ use Rattle.fitch_file.specs.declared.fault.TextFault.TheVariants.{Memory}
 use Rattle.fitch_file.specs.ProofFaults.{IsFirstFault}
 use Rattle.nested_proofs.specs.Limits.{AreLines}
 use Rattle.nested_proofs.proofs.OneProof.{a_proof}
-use Rattle.proof_check.specs.Failing.{is_allowed, no_answers, IsFailureWith, Passes}
+use Rattle.proof_check.specs.Failing.{is_allowed, no_answers}
 use Rattle.proof_check.specs.Judged.{IsCorrect, IsJudged, is_correct, fails_first, misses_goal, IsText, IsVerdict, of_proof, of_faulty}
 
 abbrev StatesClosed : FlatLine → Type 0
@@ -46,18 +43,12 @@ placed_all P [] ls e h = tt
 placed_all P (x ∷ xs) [] e h = cc
 placed_all P (x ∷ xs) (l ∷ ls) e h = (subst P (let f : l ≡ x.line = cc in f) h.0, placed_all P xs ls (let f : map (λ (y : Placed). y.line) xs ≡ ls = cc in f) h.1)
 
--- a line that passes its tests boxes nothing, and fails none of the tests of its rule
-faultless : (premises : List Sent) (x : Placed) (c : Option Word) → IsFailureWith c (λ o. IsFirstFailure is_allowed no_answers premises x o) None → IsFirstFailure is_allowed no_answers premises x None
-faultless premises x None h = h
-faultless premises x (Some c) h = cc
-
 pub correct_proof_shows : (task : Task) (text : List ℕ) (p : Items) → IsText text p → IsCorrect task p → Der task.premises task.goal
 correct_proof_shows task text p t h =
     subst (λ gs. Der gs task.goal) (append-nil task.premises)
     (faultless_proof_shows is_allowed no_answers [] task.premises p task.goal (λ rule ps s c f g. absurd g.1) (λ c. tt) t.proper
     (placed_all StatesClosed (lines_of p) (flatten 1 p) (placed_lines p outside 1 1) (spelled_closed [] t.spells.rest (flatten 1 p) t.spells.spell))
-    (all_turn (Passes task.premises) (λ (x : Placed). IsFirstFailure is_allowed no_answers task.premises x None) (λ x g. faultless task.premises x x.line.boxed g) (lines_of p) h.pass)
-    h.reached)
+    h.pass h.reached)
 
 -- a text that is a proof has the verdict of its nested proof
 pub judged_text : (task : Task) (text : List ℕ) (ls : List FlatLine) (o : Result Verdict AllocError) → AreLines ls → SpellsProof text ls → IfOk o (λ v. OfLines ls (λ p. IsJudged task p v)) → IfOk o (λ v. IsVerdict task text v)

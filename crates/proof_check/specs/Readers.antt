@@ -1,25 +1,42 @@
 -- What the parts of the checker answer of flat lines: private descriptions, each of the nested proof that has the lines.
-use Rattle.std.specs.Prelude.{◌≡◌, ℕ, zero, suc, ◌+◌, ◌<◌, ◌==◌, if◌then◌else◌, List, [], ◌∷◌, Option, Some, None, slice_get}
+use Rattle.std.specs.Prelude.{◌≡◌, ◌≢◌, ℕ, zero, suc, ◌+◌, ◌<◌, ◌==◌, if◌then◌else◌, List, [], ◌∷◌, Option, Some, None, slice_get}
 use Rattle.std.specs.List.{AllByRecursion}
 use Rattle.fol_core.specs.declared.sent.Sent.{Sent}
+use Rattle.fol_core.specs.Word.{Word}
 use Rattle.deriv_laws.specs.declared.line.FlatLine.{FlatLine}
 use Rattle.deriv_laws.specs.declared.line.StepFault.{StepFault}
 use Rattle.deriv_laws.specs.declared.line.StepFault.TheVariants as fault
 use Rattle.nested_proofs.specs.CiteTests.{cites_fault}
 use Rattle.nested_proofs.specs.FollowsAt.{FollowsAt}
+use Rattle.nested_proofs.specs.StaysAt.{StaysAt}
+use Rattle.nested_proofs.specs.Fresh.{IsFresh, HasFreshBox}
 use Rattle.nested_proofs.specs.Items.{Items, flatten, AreProper}
 use Rattle.nested_proofs.specs.Placed.{Placed, lines_of}
+use Rattle.rules_quant.specs.FailsAs.{FailsAs}
 use Rattle.proof_check.specs.declared.check.Found.{Found}
 use Rattle.proof_check.specs.declared.verdict.LineFault.{LineFault}
 use Rattle.proof_check.specs.declared.verdict.LineFault.TheVariants as l
 use Rattle.proof_check.specs.Failing.{Passes}
 use Rattle.proof_check.specs.Judged.{AllPass, FailsFirst}
 
--- What the tests of a step come to: the fault of its cites, or else whether its sentence follows (F).
-abbrev pub IsTested : Option StepFault → Type 0 → Option LineFault → Type 0
-IsTested (Some e) F f = f ≡ Some (l.Step e)
-IsTested None F None = F
-IsTested None F (Some f) = (f ≡ l.Step fault.NotFollows) × (F → ⊥)
+-- What the tests of a step come to: the fault of its cites, or else what the test of its rule comes to.
+abbrev pub IsTested : Option StepFault → (Option LineFault → Type 0) → Option LineFault → Type 0
+IsTested (Some e) R f = f ≡ Some (l.Step e)
+IsTested None R f = R f
+
+-- The line follows by its rule, and the constant that its cited subproof boxes stays arbitrary.
+abbrev pub Stands : Placed → Type 0
+Stands x = FollowsAt x × StaysAt x
+
+-- What the test of its rule comes to.
+abbrev pub IsRuleFault : Placed → Option LineFault → Type 0
+IsRuleFault x None = Stands x
+IsRuleFault x (Some f) = (e : StepFault) × (f ≡ l.Step e) × (e ≢ fault.Memory) × FailsAs e x
+
+-- The fault of an opening: the boxed constant isn't fresh.
+abbrev pub IsBoxFault : List Sent → Placed → Option LineFault → Type 0
+IsBoxFault premises x None = HasFreshBox premises x.around x.line.boxed
+IsBoxFault premises x (Some f) = (c : Word) × (x.line.boxed ≡ Some c) × (f ≡ l.Step (fault.NotFresh c)) × (IsFresh premises x.around c → ⊥)
 
 -- The nested proof that has these lines has the property.
 abbrev pub OfLines : List FlatLine → (Items → Type 0) → Type 0
@@ -29,9 +46,9 @@ OfLines lines P = (p : Items) → AreProper p → lines ≡ flatten 1 p → P p
 abbrev pub PassBefore : List Sent → List FlatLine → ℕ → Type 0
 PassBefore premises lines n = OfLines lines (λ p. AllByRecursion (λ (x : Placed). x.number < n → Passes premises x) (lines_of p))
 
--- The first test that a step by a propositional rule fails: its cites, and then whether its sentence follows.
+-- The first test that a step by an allowed rule fails: its cites, and then the test of the rule.
 abbrev pub IsStepFault : Placed → Option LineFault → Type 0
-IsStepFault x f = IsTested (cites_fault x.line.rule x.around.scope x.line.cites) (FollowsAt x) f
+IsStepFault x f = IsTested (cites_fault x.line.rule x.around.scope x.line.cites) (IsRuleFault x) f
 
 -- The first line that fails a test is this one, with its fault; or each line passes.
 abbrev pub IsFirstFound : List Sent → List FlatLine → Option Found → Type 0

@@ -62,7 +62,7 @@ struct Found {
 fn first_fault(alloc: Global, task: &Task, lines: &Lines) -> Result<Option<Found>, AllocError>
     ensures first { IfOk result (λ found. IsFirstFound task.now.premises lines.now found) }
 {
-    let premises = task.premises.as_slice();
+    let premises = &task.premises;
     for i in 0..lines.as_slice().len() {
         let number = i as u32 + 1;
         if let Some(fault) = line_fault(alloc, premises, lines, number)? {

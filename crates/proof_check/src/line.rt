@@ -1,21 +1,24 @@
-ghost use Rattle.std.specs.Prelude.{◌≡◌, ◌<◌, ◌≤◌, length, IfOk, MatchOption, MatchResult, Contains, Some, true};
+ghost use Rattle.std.specs.Prelude.{◌≡◌, ◌≢◌, ◌<◌, ◌≤◌, length, IfOk, IfErr, OnOk, MatchOption, MatchResult, Contains, Some, None, true};
 ghost use Rattle.fol_core.specs.declared.sent.Sent.{Sent as Sentence};
 ghost use Rattle.nested_proofs.specs.AtLine.{AtLine};
+ghost use Rattle.nested_proofs.specs.CiteTests.{cites_fault_at};
+ghost use Rattle.rules_quant.specs.FailsAs.{FailsAs};
 ghost use Rattle.proof_check.specs.declared.verdict.LineFault.TheVariants as fault;
 ghost use Rattle.proof_check.specs.Failing.{is_allowed as allows, IsLineFault};
-ghost use Rattle.proof_check.specs.Readers.{IsStepFault};
+ghost use Rattle.proof_check.specs.Readers.{IsBoxFault, IsStepFault, Stands};
 
 use crate::verdict::LineFault;
 use deriv_laws::{FlatLine, Rule, StepFault};
-use fol_core::{Sent, contains};
-use nested_proofs::{Lines, cites_ok};
-use rules_prop::check_prop;
+use fol_core::{Sent, Sents, contains};
+use nested_proofs::{Lines, cites_ok, fresh_at};
+use rules_prop::{check_prop, is_propositional};
+use rules_quant::{check_quant, is_quantified};
 use std::alloc::{AllocError, Global};
 
 /// The first fault of line `j`, counted from 1, for a task with these premises.
 pub(crate) fn line_fault(
     alloc: Global,
-    premises: &[Sent],
+    premises: &Sents,
     lines: &Lines,
     j: u32,
 ) -> Result<Option<LineFault>, AllocError>
@@ -24,12 +27,9 @@ pub(crate) fn line_fault(
     ensures fault { IfOk result (λ fault. AtLine lines.now j (λ x. IsLineFault premises.now x fault)) }
 {
     let line = &lines.as_slice()[j as usize - 1];
-    if line.boxed.is_some() {
-        return Ok(Some(LineFault::RuleNotAllowed));
-    }
     match line.rule {
-        Rule::Premise => Ok(premise_fault(premises, line)),
-        Rule::Assume | Rule::BoxOnly => Ok(None),
+        Rule::Premise => Ok(premise_fault(premises.as_slice(), line)),
+        Rule::Assume | Rule::BoxOnly => opening_fault(alloc, premises, lines, j),
         rule if !is_allowed(rule) => Ok(Some(LineFault::RuleNotAllowed)),
         _ => step_fault(alloc, lines, j),
     }
@@ -45,6 +45,26 @@ fn premise_fault(premises: &[Sent], line: &FlatLine) -> Option<LineFault>
     }
 }
 
+/// The fault of a line that opens a subproof: the constant that it boxes isn't fresh.
+fn opening_fault(
+    alloc: Global,
+    premises: &Sents,
+    lines: &Lines,
+    j: u32,
+) -> Result<Option<LineFault>, AllocError>
+    requires first { 0 < j }
+    requires within { j ≤ length lines.now }
+    ensures fault { IfOk result (λ f. AtLine lines.now j (λ x. IsBoxFault premises.now x f)) }
+{
+    if fresh_at(premises, lines, j) {
+        return Ok(None);
+    }
+    match &lines.as_slice()[j as usize - 1].boxed {
+        Some(constant) => Ok(Some(LineFault::Step(StepFault::NotFresh(constant.copied(alloc)?)))),
+        None => Ok(None),
+    }
+}
+
 /// The fault of a step by a rule that is allowed.
 fn step_fault(alloc: Global, lines: &Lines, j: u32) -> Result<Option<LineFault>, AllocError>
     requires first { 0 < j }
@@ -53,14 +73,29 @@ fn step_fault(alloc: Global, lines: &Lines, j: u32) -> Result<Option<LineFault>,
     ensures fault { IfOk result (λ f. AtLine lines.now j (λ x. IsStepFault x f)) }
 {
     match cites_ok(alloc, lines, j) {
-        Ok(()) => named(check_prop(alloc, lines.as_slice(), j)),
+        Ok(()) => named(rule_met(alloc, lines, j)),
         fault => named(fault),
     }
 }
 
+/// Whether a step whose cites are in order meets its rule, or why it doesn't.
+fn rule_met(alloc: Global, lines: &Lines, j: u32) -> Result<(), StepFault>
+    requires first { 0 < j }
+    requires within { j ≤ length lines.now }
+    requires rule { AtLine lines.now j (λ x. allows x.line.rule ≡ true) }
+    requires cites { AtLine lines.now j (λ x. cites_fault_at x ≡ None) }
+    ensures stands { OnOk result (AtLine lines.now j Stands) }
+    ensures fails { IfErr result (λ e. AtLine lines.now j (FailsAs e)) }
+{
+    if is_propositional(lines.as_slice()[j as usize - 1].rule) {
+        return check_prop(alloc, lines.as_slice(), j);
+    }
+    check_quant(alloc, lines.as_slice(), j)
+}
+
 /// The fault of a line whose step was tested so.
 fn named(tested: Result<(), StepFault>) -> Result<Option<LineFault>, AllocError>
-    ensures value { IfOk result (λ f. MatchResult tested (λ _. f ≡ None) (λ e. f ≡ Some (fault.Step e))) }
+    ensures value { IfOk result (λ f. MatchResult tested (λ _. f ≡ None) (λ e. (f ≡ Some (fault.Step e)) × (e ≢ StepFault.Memory))) }
 {
     match tested {
         Ok(()) => Ok(None),
@@ -73,20 +108,5 @@ fn named(tested: Result<(), StepFault>) -> Result<Option<LineFault>, AllocError>
 fn is_allowed(rule: Rule) -> bool
     ensures value { result ≡ allows rule }
 {
-    matches!(
-        rule,
-        Rule::Reit
-            | Rule::AndIntro
-            | Rule::AndElim
-            | Rule::OrIntro
-            | Rule::OrElim
-            | Rule::NotIntro
-            | Rule::NotElim
-            | Rule::BotIntro
-            | Rule::BotElim
-            | Rule::IfIntro
-            | Rule::IfElim
-            | Rule::IffIntro
-            | Rule::IffElim
-    )
+    is_propositional(rule) || is_quantified(rule)
 }

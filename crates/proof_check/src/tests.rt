@@ -6,7 +6,7 @@ use std::alloc::{AllocError, Global};
 use std::process::Abort;
 
 /// A goal from a premise, the lines of a proof behind its header, and what is said of it.
-const CASES: [(&str, &str, &str, &str); 24] = [
+const CASES: [(&str, &str, &str, &str); 21] = [
     ("A", "A", "1 | A ; Premise\n", "correct"),
     ("A", "A", "1 | A ; Premise\n2 | A ; Reit: 1\n", "correct"),
     ("A", "B", "1 | B ; Premise\n", "line 1: NotAPremise"),
@@ -80,14 +80,6 @@ const CASES: [(&str, &str, &str, &str); 24] = [
     ("A", "A", "1 | A ; Reit: 1-1\n", "line 1: WrongKind 1"),
     ("A", "A", "1 | A ; Reit\n", "line 1: CiteCount"),
     ("A", "A", "1 | A ; Taut Con: 7\n", "line 1: RuleNotAllowed"),
-    ("A", "A", "1 | a = a ; = Intro\n", "line 1: RuleNotAllowed"),
-    (
-        "A",
-        "A",
-        "1 | | [c] A ; Assume\n2 | B ; Premise\n",
-        "line 1: RuleNotAllowed",
-    ),
-    ("A", "A", "1 | | [c] ; Box\n", "line 1: RuleNotAllowed"),
     ("A", "A", "2 | A ; Premise\n", "unreadable 2: Number"),
     (
         "A",
@@ -96,6 +88,116 @@ const CASES: [(&str, &str, &str, &str); 24] = [
         "unreadable 5: Depth",
     ),
     ("A", "A", "1 | A & ; Reit: 1\n", "unreadable 2: Sentence"),
+];
+
+/// The same, of the rules of identity and of the quantifiers.
+const QUANTIFIED: [(&str, &str, &str, &str); 21] = [
+    (
+        "@x (P(x) & Q(x))",
+        "@x P(x) & @x Q(x)",
+        "1 | @x (P(x) & Q(x)) ; Premise\n2 | | [c] ; Box\n3 | | P(c) & Q(c) ; @ Elim: 1\n4 | | P(c) ; & Elim: 3\n5 | @x P(x) ; @ Intro: 2-4\n6 | | [c] ; Box\n7 | | P(c) & Q(c) ; @ Elim: 1\n8 | | Q(c) ; & Elim: 7\n9 | @x Q(x) ; @ Intro: 6-8\n10 | @x P(x) & @x Q(x) ; & Intro: 5, 9\n",
+        "correct",
+    ),
+    (
+        "P(c)",
+        "@x (P(x) $ P(x))",
+        "1 | P(c) ; Premise\n2 | | [c] P(c) ; Assume\n3 | @x (P(x) $ P(x)) ; @ Intro: 2-2\n",
+        "line 2: NotFresh c",
+    ),
+    (
+        "@y /x R(x,y)",
+        "/x R(x,x)",
+        "1 | @y /x R(x,y) ; Premise\n2 | | [c] R(c,c) ; Assume\n3 | | /x R(x,x) ; / Intro: 2\n4 | /x R(x,c) ; @ Elim: 1\n5 | /x R(x,x) ; / Elim: 4, 2-3\n",
+        "line 5: NotFresh c",
+    ),
+    (
+        "@x @x @x @x @x @x @x @x P",
+        "P",
+        "1 | @x @x @x @x @x @x @x @x P ; Premise\n2 | P ; @ Elim: 1\n",
+        "correct",
+    ),
+    (
+        "@x @x @x @x @x @x @x @x @x P",
+        "P",
+        "1 | @x @x @x @x @x @x @x @x @x P ; Premise\n2 | P ; @ Elim: 1\n",
+        "line 2: NotFollows",
+    ),
+    (
+        "@x @x P(x)",
+        "P(a)",
+        "1 | @x @x P(x) ; Premise\n2 | @x P(x) ; @ Elim: 1\n3 | P(a) ; @ Elim: 1\n",
+        "correct",
+    ),
+    (
+        "@x /y R(x,y)",
+        "/y R(y,y)",
+        "1 | @x /y R(x,y) ; Premise\n2 | /y R(y,y) ; @ Elim: 1\n",
+        "line 2: NotFollows",
+    ),
+    ("A", "a = a", "1 | a = a ; = Intro\n", "correct"),
+    ("A", "A", "1 | a = a ; = Intro\n", "line 1: GoalNotReached"),
+    (
+        "a = b",
+        "b = b",
+        "1 | a = b ; Premise\n2 | b = b ; = Elim: 1, 1\n",
+        "correct",
+    ),
+    (
+        "a = b & R(a,b)",
+        "R(b,a)",
+        "1 | a = b & R(a,b) ; Premise\n2 | a = b ; & Elim: 1\n3 | R(a,b) ; & Elim: 1\n4 | R(b,a) ; = Elim: 2, 3\n",
+        "line 4: NotFollows",
+    ),
+    (
+        "a = b & R(a,b)",
+        "R(a,b)",
+        "1 | a = b & R(a,b) ; Premise\n2 | a = b ; & Elim: 1\n3 | R(a,b) ; & Elim: 1\n4 | R(a,b) ; = Elim: 2, 3\n",
+        "correct",
+    ),
+    (
+        "A",
+        "@x P(x)",
+        "1 | | [c] ; Box\n2 | @x P(x) ; @ Intro: 1-1\n",
+        "line 2: NotFollows",
+    ),
+    (
+        "A",
+        "A",
+        "1 | | [c] ; Box\n2 | | | [c] ; Box\n",
+        "line 2: NotFresh c",
+    ),
+    (
+        "A",
+        "A",
+        "1 | | [c] ; Box\n2 | | [c] ; Box\n3 | A ; Premise\n",
+        "correct",
+    ),
+    ("P(c)", "A", "1 | | [c] ; Box\n", "line 1: NotFresh c"),
+    (
+        "/x P(x)",
+        "a = a",
+        "1 | /x P(x) ; Premise\n2 | | [c] ; Box\n3 | | a = a ; = Intro\n4 | a = a ; / Elim: 1, 2-3\n",
+        "line 4: NotFollows",
+    ),
+    (
+        "A",
+        "@x (P(x) $ P(c))",
+        "1 | | [c] P(c) ; Assume\n2 | @x (P(x) $ P(c)) ; @ Intro: 1-1\n",
+        "line 2: NotFresh c",
+    ),
+    (
+        "A",
+        "@x (P(x) $ P(x))",
+        "1 | | [c] P(c) ; Assume\n2 | @x (P(x) $ P(x)) ; @ Intro: 1-1\n",
+        "correct",
+    ),
+    (
+        "A",
+        "A",
+        "1 | | [c] A ; Assume\n2 | B ; Premise\n",
+        "line 2: NotAPremise",
+    ),
+    ("A", "A", "1 | | [c] ; Box\n", "line 0: GoalNotReached"),
 ];
 
 /// The verdict in short: what is wrong, and where.
@@ -134,6 +236,9 @@ fn step(alloc: Global, number: u32, fault: &StepFault) -> Result<String, AllocEr
         }
         StepFault::WrongKind(cite) => format!(in alloc; "line {}: WrongKind {}", number, *cite),
         StepFault::NotFollows => format!(in alloc; "line {number}: NotFollows"),
+        StepFault::NotFresh(constant) if constant.as_slice() == b"c".as_slice() => {
+            format!(in alloc; "line {number}: NotFresh c")
+        }
         _ => format!(in alloc; "line {number}"),
     }
 }
@@ -162,6 +267,15 @@ fn judged(alloc: Global, premise: &str, goal: &str, lines: &str) -> Result<Strin
 #[test]
 fn the_verdict_names_the_first_fault(rt: HostRuntime) {
     for (premise, goal, lines, want) in CASES {
+        let said = judged(rt.alloc(), premise, goal, lines);
+        let right = said.is_ok_and(|said| said.as_str() == want);
+        assert!(rt; right, "{lines}");
+    }
+}
+
+#[test]
+fn the_verdict_on_identity_quantifiers_and_boxes(rt: HostRuntime) {
+    for (premise, goal, lines, want) in QUANTIFIED {
         let said = judged(rt.alloc(), premise, goal, lines);
         let right = said.is_ok_and(|said| said.as_str() == want);
         assert!(rt; right, "{lines}");

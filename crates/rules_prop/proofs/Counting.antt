@@ -12,11 +12,11 @@ use Rattle.nested_proofs.specs.CiteTests.{lines_cited, subproofs_cited, counts_f
 use Rattle.nested_proofs.proofs.CiteFaults.{all_cited}
 use Rattle.rules_prop.specs.Propositional.{is_from_one, is_from_two, is_propositional}
 
-both : (a b : Bool) → (a && b) ≡ true → (a ≡ true) × (b ≡ true)
+pub both : (a b : Bool) → (a && b) ≡ true → (a ≡ true) × (b ≡ true)
 both true b e = (refl, e)
 both false b e = cc
 
-exactly : (k m i j : ℕ) → ((k == i) && (m == j)) ≡ true → (k ≡ i) × (m ≡ j)
+pub exactly : (k m i j : ℕ) → ((k == i) && (m == j)) ≡ true → (k ≡ i) × (m ≡ j)
 exactly k m i j e = let h = both (k == i) (m == j) e in (eqb-true k i h.0, eqb-true m j h.1)
 
 -- a rule from one line cites one line and no subproof

@@ -10,4 +10,5 @@ mod rules;
 mod tests;
 
 pub use check::check_prop;
+pub use cited::only_cited;
 pub use rules::is_propositional;

@@ -14,4 +14,4 @@ fits P (Some b) r n k (inl e) = let w = k ∙ e in cc
 fits P (Some b) r n k (inr (e, u)) = let w = k ∙ e in cc
 
 pub returns : goal.returns
-returns c = record { alone = λ n h. fits (λ m. c.args.s.now ≡ subst_name c.args.x.now m c.args.q.now) _ _ n c.instance_name_at.ensures.value (name_alone c.args.x.now n c.args.q.now c.args.s.now h) }
+returns c = record { alone = λ n h. fits (λ m. c.args.s.now ≡ subst_name c.args.x.now m c.args.q.now) _ _ n c.instance_name_at.ensures.value (name_alone c.args.x.now n c.args.q.now c.args.s.now h); read = c.instance_name_at.ensures.value }

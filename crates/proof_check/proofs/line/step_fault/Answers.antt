@@ -1,6 +1,3 @@
-use Rattle.std.proofs.Common.{subst}
-use Rattle.std.specs.Prelude.{OnOk, OnErr}
-use Rattle.nested_proofs.specs.FollowsAt.{FollowsAt}
 use Rattle.nested_proofs.specs.AtLine.{AtLine}
 use Rattle.proof_check.specs.Readers.{IsStepFault}
 use Rattle.proof_check.proofs.LineFaults.{cites_fail, cites_pass, turned}
@@ -9,10 +6,7 @@ use Rattle.proof_check.proofs.line.step_fault.Goals as goal
 pub returns-in-Ok : goal.returns-in-Ok
 returns-in-Ok c = record {
   fault = turned c.named.result _ (λ f. AtLine c.args.lines.now c.args.j (λ x. IsStepFault x f))
-      (λ f e. cites_pass c.args.lines.now c.args.j c.check_prop.result f c.in-Ok.ensures.exact
-      (subst (λ ls. OnOk c.check_prop.result (AtLine ls c.args.j FollowsAt)) c.as_slice.ensures.value c.check_prop.ensures.ok)
-      (subst (λ ls. OnErr c.check_prop.result (AtLine ls c.args.j (λ x. FollowsAt x → ⊥))) c.as_slice.ensures.value c.check_prop.ensures.err)
-      c.check_prop.ensures.only e) c.named.ensures.value;
+      (λ f e. cites_pass c.args.lines.now c.args.j c.rule_met.result f c.in-Ok.ensures.exact c.rule_met.ensures.stands c.rule_met.ensures.fails e) c.named.ensures.value;
 }
 
 pub returns-in_default : goal.returns-in_default

@@ -1,0 +1,10 @@
+pub mod Putting
+pub mod Entries
+pub mod PutNames
+pub mod ReadNames
+pub mod PutNothing
+pub mod Finding
+pub mod InRows
+pub mod Showing
+pub mod Citing
+pub mod AtQuant
