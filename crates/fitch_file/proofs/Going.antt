@@ -2,7 +2,7 @@
 use Rattle.std.proofs.Common.{◌≡◌, ℕ, ◌+◌, List, [], ◌∷◌, ◌++◌, refl, sym, ap, subst, ◌∙◌, append_assoc, append-nil, Result, Ok, Err, inl, inr, IfErr}
 use Rattle.std.specs.Prelude.{◌⊎◌, IsErrAnd}
 use Rattle.deriv_laws.specs.declared.line.FlatLine.{FlatLine}
-use Rattle.fitch_file.specs.Physical.{IsBlankLine}
+use Rattle.physical_lines.specs.Physical.{IsBlankLine}
 use Rattle.fitch_file.specs.Line.{IsLine}
 use Rattle.fitch_file.specs.LineFaults.{LineFails}
 use Rattle.fitch_file.specs.ProofText.{SpellLines, no_more, blank_line, proof_line}

@@ -2,8 +2,8 @@
 use Rattle.std.proofs.Common.{◌≡◌, ℕ, ◌+◌, ◌≤◌, Bool, true, false, List, [], ◌∷◌, ◌++◌, length, arith, ap, Option, Some, None, length-append}
 use Rattle.std.specs.Prelude.{◌==◌, if◌then◌else◌}
 use Rattle.std.specs.Fmt.{decimal}
-use Rattle.texts.specs.Blanks.{is_blank, after_blanks, before_blanks, trimmed}
-use Rattle.texts.proofs.Trimming.{front_before_blanks}
+use Rattle.texts.specs.Blanks.{is_blank, after_blanks}
+use Rattle.physical_lines.proofs.Lengths.{either_fits, after_blanks_fits, trimmed_fits}
 use Rattle.fol_core.specs.Word.{Word}
 use Rattle.fitch_file.specs.Numbering.{IsNumbered, after_bars}
 use Rattle.fitch_file.specs.Boxes.{IsBoxed}
@@ -12,30 +12,12 @@ use Rattle.fitch_file.specs.Readers.{IsWordIfAny}
 use Rattle.fitch_file.specs.Declarations.{IsBehind}
 use Rattle.fitch_file.proofs.Boxing.{name_is_ident}
 
-either_fits : (c : Bool) (xs ys : List ℕ) (n : ℕ) → length xs ≤ n → length ys ≤ n → length (if c then xs else ys) ≤ n
-either_fits true xs ys n h k = h
-either_fits false xs ys n h k = k
-
 after_bars_fits : (bs : List ℕ) → length (after_bars bs) ≤ length bs
 after_bars_fits [] = omega arith
 after_bars_fits (b ∷ bs) =
     let more : length (after_bars bs) ≤ length bs = after_bars_fits bs in
     either_fits (b == 124) (after_bars bs) (if is_blank b then after_bars bs else b ∷ bs) (length (b ∷ bs)) (omega arith)
     (either_fits (is_blank b) (after_bars bs) (b ∷ bs) (length (b ∷ bs)) (omega arith) (omega arith))
-
-after_blanks_fits : (bs : List ℕ) → length (after_blanks bs) ≤ length bs
-after_blanks_fits [] = omega arith
-after_blanks_fits (b ∷ bs) =
-    let more : length (after_blanks bs) ≤ length bs = after_blanks_fits bs in
-    either_fits (is_blank b) (after_blanks bs) (b ∷ bs) (length (b ∷ bs)) (omega arith) (omega arith)
-
-before_blanks_fits : (bs : List ℕ) → length (before_blanks bs) ≤ length bs
-before_blanks_fits bs =
-    let front : (tail : List ℕ) × (bs ≡ before_blanks bs ++ tail) = front_before_blanks bs in
-    omega (arith, ap length front.1, length-append (before_blanks bs) front.0)
-
-pub trimmed_fits : (bs : List ℕ) → length (trimmed bs) ≤ length bs
-trimmed_fits bs = omega (arith, before_blanks_fits (after_blanks bs), after_blanks_fits bs)
 
 unboxed_fits : (text : List ℕ) (b : Option Word) (rest : List ℕ) → IsBoxed text b rest → length rest ≤ length text
 unboxed_fits text (Some name) rest h = omega (arith, ap length h.begins, length-append name (93 ∷ rest))
@@ -61,9 +43,6 @@ boxed_word text None rest h = tt
 
 pub claim_boxes_word : (text : List ℕ) (claim : Claim) → IsClaim text claim → IsWordIfAny claim.boxed
 claim_boxes_word text claim h = boxed_word text claim.boxed h.rest h.boxed
-
-pub after_blanks_shorter : (bs : List ℕ) → length (after_blanks bs) ≤ length bs
-after_blanks_shorter = after_blanks_fits
 
 pub behind_fits : (keyword line text : List ℕ) → IsBehind keyword line text → length text ≤ length line
 behind_fits keyword line text h = omega (arith, ap length h.begins, length-append keyword h.tail, ap length h.is, trimmed_fits h.tail)

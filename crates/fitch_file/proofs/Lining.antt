@@ -17,7 +17,7 @@ use Rattle.fitch_file.specs.Line.{IsClaimed, IsLine}
 use Rattle.fitch_file.specs.LineFaults.{NestingFails, LineFails}
 use Rattle.fitch_file.specs.declared.fault.TextFault.{TextFault}
 use Rattle.fitch_file.specs.declared.fault.TextFault.TheVariants.{Memory, RuleName}
-use Rattle.fitch_file.specs.Physical.{IsBlankLine}
+use Rattle.physical_lines.specs.Physical.{IsBlankLine}
 use Rattle.fitch_file.proofs.Claiming.{claim_once}
 use Rattle.fitch_file.proofs.Digits.{decimal_digits}
 

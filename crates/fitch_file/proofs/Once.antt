@@ -9,7 +9,8 @@ use Rattle.fol_text.specs.declared.fault.ReadFault.{ReadFault}
 use Rattle.deriv_laws.specs.declared.line.Cite.{Cite}
 use Rattle.deriv_laws.specs.declared.line.FlatLine.{FlatLine}
 use Rattle.nested_proofs.specs.Limits.{DepthFits, depth_after}
-use Rattle.fitch_file.specs.Physical.{IsBlankLine, proof_header}
+use Rattle.physical_lines.specs.Physical.{IsBlankLine}
+use Rattle.fitch_file.specs.Headers.{proof_header}
 use Rattle.fitch_file.specs.Numbering.{IsNumbered, IsDepth, bars, after_bars}
 use Rattle.fitch_file.specs.Claim.{Claim, IsClaim}
 use Rattle.fitch_file.specs.Cites.{AreCited}
@@ -23,7 +24,8 @@ use Rattle.fitch_file.proofs.Stating.{cited_once, same_line}
 use Rattle.fitch_file.proofs.Claiming.{claim_once}
 use Rattle.fitch_file.proofs.Lining.{body_once, line_of_claim, blank_is_no_line}
 use Rattle.fitch_file.proofs.Going.{first_line}
-use Rattle.fitch_file.proofs.Heading.{IsSameHeader, headed_once, lacks_not_headed, lacks_once, spelled_behind, spelled_not_lacking}
+use Rattle.physical_lines.proofs.Heading.{IsSameHeader, headed_once, lacks_not_headed, lacks_once}
+use Rattle.fitch_file.proofs.Heading.{spelled_behind, spelled_not_lacking}
 
 -- the laws of sentences
 pub record SentenceLaws : Type 0 where

@@ -27,7 +27,8 @@ use Rattle.fitch_file.specs.Numbering.{IsDepth, bars, after_bars}
 use Rattle.fitch_file.specs.Cites.{AreCited, may_cite}
 use Rattle.fitch_file.specs.Claim.{Claim, IsClaim, IsReason, is_nothing, suits}
 use Rattle.fitch_file.specs.Line.{IsStated, IsClaimed, IsLine}
-use Rattle.fitch_file.specs.Physical.{ComesFirst, at_once, IsHeaded, proof_header}
+use Rattle.physical_lines.specs.Physical.{ComesFirst, at_once, IsHeaded}
+use Rattle.fitch_file.specs.Headers.{proof_header}
 use Rattle.fitch_file.specs.ProofText.{SpellLines, no_more, proof_line, SpellsProof}
 use Rattle.fitch_file.specs.PrintedProof.{name_text, bars_text, box_text, stated_text, cite_text, cites_text, reason_text, claim_text, printed_line, printed_lines, printed_proof, StatesReadableText, BoxesName, IsReadBack}
 use Rattle.fitch_file.proofs.Boxing.{name_is_ident}

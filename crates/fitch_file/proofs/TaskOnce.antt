@@ -11,13 +11,14 @@ use Rattle.fitch_file.specs.declared.task.Allowed.{Allowed}
 use Rattle.fitch_file.specs.declared.task.TaskText.{TaskText}
 use Rattle.fitch_file.specs.declared.fault.TaskFault.{TaskFault}
 use Rattle.fitch_file.specs.declared.fault.TaskFault.TheVariants as fault
-use Rattle.fitch_file.specs.Physical.{IsBlankLine, IsHeaded, task_header}
+use Rattle.physical_lines.specs.Physical.{IsBlankLine, IsHeaded}
+use Rattle.fitch_file.specs.Headers.{task_header}
 use Rattle.fitch_file.specs.Declarations.{IsBehind, AddsPremise, AddsGoal, AddsAllowed, Declares, none_allowed, nothing, premise_word, goal_word, con_word}
 use Rattle.fitch_file.specs.TaskText.{Declare, task_lines, IsFinished, SpellsTask}
 use Rattle.fitch_file.specs.TaskFaults.{PremiseFails, GoalFails, AllowedFails, HasNoKeyword, DeclarationFails, DeclareFails, fails_here, past_blank, past_line, IsFirstTaskFault, no_header, no_declaration, no_goal}
 use Rattle.fitch_file.proofs.Allowing.{allow_same}
 use Rattle.fitch_file.proofs.Declaring.{text_once, premise_no_goal, premise_no_con, goal_no_con, declares_premise, declares_goal, declares_allowed}
-use Rattle.fitch_file.proofs.Heading.{IsSameHeader, headed_once, lacks_not_headed, lacks_once}
+use Rattle.physical_lines.proofs.Heading.{IsSameHeader, headed_once, lacks_not_headed, lacks_once}
 use Rattle.fitch_file.proofs.Tasking.{first_of, blank_declares_none, finished_once, same_text, where_ends}
 use Rattle.fitch_file.proofs.Once.{SentenceLaws, readable_once}
 

@@ -16,14 +16,16 @@ use Rattle.fitch_file.specs.declared.task_text.Progress.{Progress}
 use Rattle.fitch_file.specs.declared.fault.TaskFault.{TaskFault}
 use Rattle.fitch_file.specs.declared.fault.TaskFault.TheVariants.{Memory, NoGoal}
 use Rattle.fol_core.specs.declared.sent.Sent.{Sent}
-use Rattle.fitch_file.specs.Physical.{IsBlankLine, ComesFirst, at_once, past_blank as comes_later, IsHeader, IsHeaded, task_header}
+use Rattle.physical_lines.specs.Physical.{IsBlankLine, ComesFirst, at_once, past_blank as comes_later, IsHeader, IsHeaded}
+use Rattle.fitch_file.specs.Headers.{task_header}
 use Rattle.fitch_file.specs.Claim.{is_nothing}
 use Rattle.fitch_file.specs.Words.{begins_proof}
 use Rattle.fitch_file.specs.Declarations.{Declares, premise_word, goal_word, con_word, nothing}
 use Rattle.fitch_file.specs.TaskText.{Declare, no_more, blank_line, declaration, IsFinished, task_lines, proof_lines, count_written, count_before, count_of_lines, EndsAt, at_end, at_proof, past_line, SpellsTask}
 use Rattle.fitch_file.specs.TaskFaults.{DeclarationFails, DeclareFails, fails_here, past_blank, past_line as past_declaration, IsFirstTaskFault, no_declaration, no_goal}
-use Rattle.fitch_file.specs.TaskReaders.{LeadsTo, leads_here, leads_on, Advances}
-use Rattle.fitch_file.proofs.Heading.{IsSameHeader, headed_once}
+use Rattle.physical_lines.specs.Leading.{LeadsTo, leads_here, leads_on}
+use Rattle.fitch_file.specs.TaskReaders.{Advances}
+use Rattle.physical_lines.proofs.Heading.{IsSameHeader, headed_once}
 
 -- the first physical line
 positive : (text : List ℕ) → text ≢ [] → 0 < length text

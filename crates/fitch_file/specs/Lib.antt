@@ -1,5 +1,5 @@
 pub mod Beside
-pub mod Physical
+pub mod Headers
 pub mod Numbering
 pub mod Boxes
 pub mod RuleNames

@@ -13,7 +13,7 @@ use Rattle.deriv_laws.specs.declared.line.FlatLine.{FlatLine}
 use Rattle.fitch_file.specs.declared.rule_names.RuleName.{RuleName}
 use Rattle.fitch_file.specs.declared.rule_names.RuleName.TheVariants.{OneWord, Consequence, Introduction, Elimination}
 use Rattle.fitch_file.specs.RuleNames.{name_of, word_text, typed}
-use Rattle.fitch_file.specs.Physical.{proof_header}
+use Rattle.fitch_file.specs.Headers.{proof_header}
 
 -- A rule's name with the typed sign, and one space between its two words.
 abbrev pub name_text : RuleName → List ℕ

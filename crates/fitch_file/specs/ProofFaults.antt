@@ -2,7 +2,8 @@
 use Rattle.std.specs.Prelude.{ℕ, ◌+◌, List, [], ◌∷◌, ◌++◌}
 use Rattle.std.specs.Str.Lines.{lines}
 use Rattle.deriv_laws.specs.declared.line.FlatLine.{FlatLine}
-use Rattle.fitch_file.specs.Physical.{IsBlankLine, IsHeaded, LacksHeader, proof_header}
+use Rattle.physical_lines.specs.Physical.{IsBlankLine, IsHeaded, LacksHeader}
+use Rattle.fitch_file.specs.Headers.{proof_header}
 use Rattle.fitch_file.specs.Line.{IsLine}
 use Rattle.fitch_file.specs.LineFaults.{LineFails}
 use Rattle.fitch_file.specs.declared.fault.TextFault.{TextFault}

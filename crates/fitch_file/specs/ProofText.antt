@@ -2,7 +2,8 @@
 use Rattle.std.specs.Prelude.{ℕ, List, [], ◌∷◌, ◌++◌}
 use Rattle.std.specs.Str.Lines.{lines}
 use Rattle.deriv_laws.specs.declared.line.FlatLine.{FlatLine}
-use Rattle.fitch_file.specs.Physical.{IsBlankLine, IsHeaded, proof_header}
+use Rattle.physical_lines.specs.Physical.{IsBlankLine, IsHeaded}
+use Rattle.fitch_file.specs.Headers.{proof_header}
 use Rattle.fitch_file.specs.Line.{IsLine}
 
 -- `SpellLines earlier texts ls`: after the earlier lines, the physical lines are these proof lines in order, with blank

@@ -9,7 +9,7 @@ use Rattle.fol_text.specs.declared.fault.ReadFault.{ReadFault}
 use Rattle.fol_text.specs.declared.fault.ReadFault.TheVariants as read_fault
 use Rattle.fitch_file.specs.declared.fault.TextFault.{TextFault}
 use Rattle.fitch_file.specs.declared.fault.TextFault.TheVariants.{Sentence, Memory}
-use Rattle.fitch_file.specs.Physical.{IsBlankLine}
+use Rattle.physical_lines.specs.Physical.{IsBlankLine}
 use Rattle.fitch_file.specs.Cites.{IsPart}
 use Rattle.fitch_file.specs.Claim.{Claim, IsReason, IsClaim}
 use Rattle.fitch_file.specs.Line.{IsLine}

@@ -8,7 +8,8 @@ use Rattle.fitch_file.specs.declared.fault.TaskFault.{TaskFault}
 use Rattle.fitch_file.specs.declared.fault.TaskFault.TheVariants.{Header, Form, Sentence, NoGoal, TooManyPremises}
 use Rattle.fitch_file.specs.declared.task.Allowed.{Allowed}
 use Rattle.fitch_file.specs.declared.draft.Draft.{Draft}
-use Rattle.fitch_file.specs.Physical.{IsBlankLine, IsHeaded, LacksHeader, task_header}
+use Rattle.physical_lines.specs.Physical.{IsBlankLine, IsHeaded, LacksHeader}
+use Rattle.fitch_file.specs.Headers.{task_header}
 use Rattle.fitch_file.specs.Declarations.{IsBehind, AllowsText, Says, Declares, premise_word, goal_word, con_word, nothing}
 use Rattle.fitch_file.specs.TaskText.{Declare, task_lines, count_written}
 

@@ -5,15 +5,9 @@ use Rattle.fol_text.specs.declared.fault.ReadFault.{ReadFault}
 use Rattle.fol_text.specs.declared.fault.ReadFault.TheVariants as read_fault
 use Rattle.fitch_file.specs.declared.fault.TaskFault.{TaskFault}
 use Rattle.fitch_file.specs.declared.fault.TaskFault.TheVariants.{Sentence, Memory}
-use Rattle.fitch_file.specs.Physical.{IsBlankLine}
+use Rattle.physical_lines.specs.Physical.{IsBlankLine}
 use Rattle.fitch_file.specs.Declarations.{Declares}
 use Rattle.fitch_file.specs.declared.task_text.Progress.{Progress}
-
--- `LeadsTo place text n line rest`: the text begins with the physical line `place`. Its first line that isn't blank is this
--- one, the physical line n, and the rest follows it.
-pub data LeadsTo : ℕ → List ℕ → ℕ → List ℕ → List ℕ → Type 0 where
-  leads_here : (place : ℕ) (text line rest : List ℕ) → IsFirstLine text line rest → (IsBlankLine line → ⊥) → LeadsTo place text place line rest
-  leads_on : (place : ℕ) (text blank after : List ℕ) (n : ℕ) (line rest : List ℕ) → IsFirstLine text blank after → IsBlankLine blank → LeadsTo (place + 1) after n line rest → LeadsTo place text n line rest
 
 -- The fault of a line of a task whose sentence is refused, or the want of memory.
 abbrev pub declared_fault : ReadFault → TaskFault

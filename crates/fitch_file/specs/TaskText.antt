@@ -6,7 +6,8 @@ use Rattle.texts.specs.Lines.{IsFirstLine}
 use Rattle.fitch_file.specs.declared.task.Allowed.{Allowed}
 use Rattle.fitch_file.specs.declared.task.Task.{Task}
 use Rattle.fitch_file.specs.declared.draft.Draft.{Draft}
-use Rattle.fitch_file.specs.Physical.{IsBlankLine, IsHeaded, task_header}
+use Rattle.physical_lines.specs.Physical.{IsBlankLine, IsHeaded}
+use Rattle.fitch_file.specs.Headers.{task_header}
 use Rattle.fitch_file.specs.Claim.{is_nothing}
 use Rattle.fitch_file.specs.Words.{begins_proof}
 use Rattle.fitch_file.specs.Declarations.{Declares, none_allowed, nothing}

@@ -11,7 +11,6 @@ mod draft;
 mod fault;
 mod laws;
 mod numbering;
-mod physical;
 mod print;
 #[cfg(test)]
 mod print_tests;

@@ -1,7 +1,7 @@
 ghost use Rattle.std.specs.Prelude.{◌≡◌, ◌≤◌, ◌<◌, ◌+◌, ◌++◌, ◌∷◌, ◌⊎◌, ℕ, List, length, [], Ok, Err, IfOk, IfErr, OnOk, IsErrAnd};
 ghost use Rattle.std.specs.Str.Lines.{lines as lines_of};
 ghost use Rattle.deriv_laws.specs.declared.line.FlatLine.{FlatLine as Line};
-ghost use Rattle.fitch_file.specs.Physical.{IsBlankLine};
+ghost use Rattle.physical_lines.specs.Physical.{IsBlankLine};
 ghost use Rattle.fitch_file.specs.Line.{IsLine};
 ghost use Rattle.fitch_file.specs.LineFaults.{LineFails};
 ghost use Rattle.fitch_file.specs.ProofText.{SpellLines, SpellsProof};
@@ -9,9 +9,9 @@ ghost use Rattle.fitch_file.specs.ProofFaults.{LinesFail, IsFirstFault};
 ghost use Rattle.fitch_file.specs.Readers.{PutsLine};
 
 use crate::fault::TextFault;
-use crate::physical::{after_header, is_blank};
 use crate::proof_line::read_line;
 use nested_proofs::Lines;
+use physical_lines::{after_header, is_blank};
 use std::alloc::Global;
 use texts::next_line;
 

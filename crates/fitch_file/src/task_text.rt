@@ -2,18 +2,20 @@ ghost use Rattle.std.specs.Prelude.{◌≡◌, ◌≤◌, ◌<◌, ◌+◌, ◌�
 ghost use Rattle.fitch_file.specs.declared.draft.Draft.{Draft as Declared};
 ghost use Rattle.fitch_file.specs.declared.task.Task.{Task as Given};
 ghost use Rattle.fitch_file.specs.declared.task.TaskText.{TaskText as Answer};
-ghost use Rattle.fitch_file.specs.Physical.{IsBlankLine, IsHeader, task_header};
+ghost use Rattle.physical_lines.specs.Physical.{IsBlankLine, IsHeader};
+ghost use Rattle.fitch_file.specs.Headers.{task_header};
 ghost use Rattle.fitch_file.specs.Declarations.{Declares};
 ghost use Rattle.fitch_file.specs.TaskText.{IsFinished, SpellsTask};
 ghost use Rattle.fitch_file.specs.TaskFaults.{DeclarationFails, IsFirstTaskFault};
-ghost use Rattle.fitch_file.specs.TaskReaders.{LeadsTo, Advances};
+ghost use Rattle.physical_lines.specs.Leading.{LeadsTo};
+ghost use Rattle.fitch_file.specs.TaskReaders.{Advances};
 
 use crate::declaration::declare;
 use crate::draft::Draft;
 use crate::fault::TaskFault;
-use crate::physical::{Physical, first_line, is_blank};
 use crate::task::TaskText;
 use crate::words::begins_proof;
+use physical_lines::{Physical, first_line, is_blank};
 use std::alloc::Global;
 use texts::{next_line, trim_end};
 

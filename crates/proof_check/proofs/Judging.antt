@@ -2,7 +2,7 @@
 use Rattle.std.proofs.Common.{◌≡◌, ℕ, ◌+◌, ◌≤◌, ◌<◌, List, [], ◌∷◌, length, ap, sym, ◌∙◌, arith, ◌⊎◌, inl, inr, Some, None}
 use Rattle.std.proofs.Math.Nat.{eq-or-lt_of_le}
 use Rattle.std.specs.List.{AllByRecursion}
-use Rattle.fol_core.specs.declared.sent.Sent.{Sent}
+use Rattle.fitch_file.specs.declared.task.Task.{Task}
 use Rattle.deriv_laws.specs.declared.line.FlatLine.{FlatLine}
 use Rattle.deriv_laws.proofs.Lists.{all_turn}
 use Rattle.deriv_laws.proofs.Members.{all_each}
@@ -28,33 +28,33 @@ size_is : (lines : List FlatLine) (p : Items) → lines ≡ flatten 1 p → size
 size_is lines p e = sym (flat_size 1 p) ∙ ap length (sym e)
 
 -- before the first line nothing is to be passed
-pub none_before : (premises : List Sent) (lines : List FlatLine) → PassBefore premises lines 1
-none_before premises lines p o e = all_turn (Among 1 (size p)) (λ (x : Placed). x.number < 1 → Passes premises x) (λ x h n. absurd (omega (arith, h.0, n))) (lines_of p) (numbered p)
+pub none_before : (task : Task) (lines : List FlatLine) → PassBefore task lines 1
+none_before task lines p o e = all_turn (Among 1 (size p)) (λ (x : Placed). x.number < 1 → Passes task x) (λ x h n. absurd (omega (arith, h.0, n))) (lines_of p) (numbered p)
 
 -- one line more passes
-pub one_more : (premises : List Sent) (lines : List FlatLine) (n : ℕ) → PassBefore premises lines n → AtLine lines n (λ x. IsLineFault premises x None) → PassBefore premises lines (n + 1)
-one_more premises lines n before here p o e =
-    both_of (λ (x : Placed). x.number < n → Passes premises x) (λ (x : Placed). x.number ≡ n → Passes premises x) (λ (x : Placed). x.number < n + 1 → Passes premises x)
+pub one_more : (task : Task) (lines : List FlatLine) (n : ℕ) → PassBefore task lines n → AtLine lines n (λ x. IsLineFault task x None) → PassBefore task lines (n + 1)
+one_more task lines n before here p o e =
+    both_of (λ (x : Placed). x.number < n → Passes task x) (λ (x : Placed). x.number ≡ n → Passes task x) (λ (x : Placed). x.number < n + 1 → Passes task x)
     (λ x f g h. go x f g (eq-or-lt_of_le (omega (arith, h)))) (lines_of p) (before p o e) (here p o e)
   where
-    go : (x : Placed) → (x.number < n → Passes premises x) → (x.number ≡ n → Passes premises x) → (x.number ≡ n) ⊎ (x.number < n) → Passes premises x
+    go : (x : Placed) → (x.number < n → Passes task x) → (x.number ≡ n → Passes task x) → (x.number ≡ n) ⊎ (x.number < n) → Passes task x
     go x f g (inl h) = g h
     go x f g (inr h) = f h
 
 -- where each line up to the last passes, all do
-pub all_pass : (premises : List Sent) (lines : List FlatLine) → PassBefore premises lines (length lines + 1) → OfLines lines (AllPass premises)
-all_pass premises lines before p o e =
-    both_of (Among 1 (size p)) (λ (x : Placed). x.number < length lines + 1 → Passes premises x) (Passes premises) (λ x h f. f (omega (arith, h.1, size_is lines p e))) (lines_of p) (numbered p) (before p o e)
+pub all_pass : (task : Task) (lines : List FlatLine) → PassBefore task lines (length lines + 1) → OfLines lines (AllPass task)
+all_pass task lines before p o e =
+    both_of (Among 1 (size p)) (λ (x : Placed). x.number < length lines + 1 → Passes task x) (Passes task) (λ x h f. f (omega (arith, h.1, size_is lines p e))) (lines_of p) (numbered p) (before p o e)
 
 -- the first line that fails
-pub fails_first : (premises : List Sent) (lines : List FlatLine) (n : ℕ) (fault : LineFault) → 0 < n → n ≤ length lines → PassBefore premises lines n → AtLine lines n (λ x. IsLineFault premises x (Some fault)) →
-    OfLines lines (λ p. FailsFirst premises p n fault)
-fails_first premises lines n fault low high before here p o e =
+pub fails_first : (task : Task) (lines : List FlatLine) (n : ℕ) (fault : LineFault) → 0 < n → n ≤ length lines → PassBefore task lines n → AtLine lines n (λ x. IsLineFault task x (Some fault)) →
+    OfLines lines (λ p. FailsFirst task p n fault)
+fails_first task lines n fault low high before here p o e =
     let w = line_with outside 1 1 p n (omega (arith, low)) (omega (arith, high, size_is lines p e)) in
     record {
       before = before p o e;
       line = w.line;
       there = w.there;
       number = w.number;
-      fails = all_each (λ (x : Placed). x.number ≡ n → IsLineFault premises x (Some fault)) (lines_of p) w.line (here p o e) w.there w.number;
+      fails = all_each (λ (x : Placed). x.number ≡ n → IsLineFault task x (Some fault)) (lines_of p) w.line (here p o e) w.there w.number;
     }

@@ -1,6 +1,9 @@
 pub mod Numbers
 pub mod LastLine
 pub mod LineFaults
+pub mod Freshness
+pub mod Tautologies
+pub mod Cited
 pub mod Judging
 pub mod Soundness
 pub mod OneVerdict

@@ -14,14 +14,16 @@ use Rattle.fitch_file.specs.ProofText.{SpellLines, SpellsProof, no_more, blank_l
 use Rattle.fitch_file.specs.declared.task.Task.{Task}
 use Rattle.proof_check.specs.declared.verdict.Verdict.{Verdict}
 use Rattle.proof_check.specs.declared.verdict.Verdict.TheVariants.{Correct, Unreadable}
-use Rattle.proof_check.specs.Readers.{OfLines}
+use Rattle.fol_core.specs.Size.{within_limits}
+use Rattle.proof_check.specs.Readers.{OfLines, StatesFit}
 use Rattle.std.specs.declared.alloc.AllocError.{AllocError}
 use Rattle.fitch_file.specs.declared.fault.TextFault.{TextFault}
 use Rattle.fitch_file.specs.declared.fault.TextFault.TheVariants.{Memory}
 use Rattle.fitch_file.specs.ProofFaults.{IsFirstFault}
 use Rattle.nested_proofs.specs.Limits.{AreLines}
 use Rattle.nested_proofs.proofs.OneProof.{a_proof}
-use Rattle.proof_check.specs.Failing.{is_allowed, no_answers}
+use Rattle.proof_check.specs.Failing.{is_allowed, answers}
+use Rattle.proof_check.proofs.Tautologies.{yes_shows}
 use Rattle.proof_check.specs.Judged.{IsCorrect, IsJudged, is_correct, fails_first, misses_goal, IsText, IsVerdict, of_proof, of_faulty}
 
 abbrev StatesClosed : FlatLine → Type 0
@@ -37,6 +39,16 @@ spelled_closed _ _ _ (no_more earlier) = tt
 spelled_closed _ _ _ (blank_line earlier text texts ls b h) = spelled_closed earlier texts ls h
 spelled_closed _ _ _ (proof_line earlier text texts l ls h k) = (stated_closed h.claim.stated l.sentence h.claimed.stated, spelled_closed (earlier ++ l ∷ []) texts ls k)
 
+-- what a line states is within the limits
+stated_within : (text : List ℕ) (s : Option Sent) → IsStated text s → IfSome s (λ x. within_limits x ≡ Ok tt)
+stated_within text None h = tt
+stated_within text (Some s) h = h.1.fit.within
+
+pub spelled_fit : (earlier : List FlatLine) (texts : List (List ℕ)) (ls : List FlatLine) → SpellLines earlier texts ls → AllByRecursion StatesFit ls
+spelled_fit _ _ _ (no_more earlier) = tt
+spelled_fit _ _ _ (blank_line earlier text texts ls b h) = spelled_fit earlier texts ls h
+spelled_fit _ _ _ (proof_line earlier text texts l ls h k) = (stated_within h.claim.stated l.sentence h.claimed.stated, spelled_fit (earlier ++ l ∷ []) texts ls k)
+
 -- what holds of the flat lines holds of the placed ones
 placed_all : (P : FlatLine → Type 0) (xs : List Placed) (ls : List FlatLine) → map (λ (x : Placed). x.line) xs ≡ ls → AllByRecursion P ls → AllByRecursion (λ (x : Placed). P x.line) xs
 placed_all P [] ls e h = tt
@@ -46,7 +58,7 @@ placed_all P (x ∷ xs) (l ∷ ls) e h = (subst P (let f : l ≡ x.line = cc in 
 pub correct_proof_shows : (task : Task) (text : List ℕ) (p : Items) → IsText text p → IsCorrect task p → Der task.premises task.goal
 correct_proof_shows task text p t h =
     subst (λ gs. Der gs task.goal) (append-nil task.premises)
-    (faultless_proof_shows is_allowed no_answers [] task.premises p task.goal (λ rule ps s c f g. absurd g.1) (λ c. tt) t.proper
+    (faultless_proof_shows (is_allowed task.allowed) answers [] task.premises p task.goal (λ rule ps s c f g. yes_shows rule ps s c f g.1) (λ c. tt) t.proper
     (placed_all StatesClosed (lines_of p) (flatten 1 p) (placed_lines p outside 1 1) (spelled_closed [] t.spells.rest (flatten 1 p) t.spells.spell))
     h.pass h.reached)
 

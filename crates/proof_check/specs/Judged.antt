@@ -22,8 +22,8 @@ last_number k before (Step s rule cites rest) = last_number (k + 1) k rest
 last_number k before (Sub o body rest) = last_number (k + 1 + size body) before rest
 
 -- Each line passes its tests.
-abbrev pub AllPass : List Sent → Items → Type 0
-AllPass premises p = AllByRecursion (Passes premises) (lines_of p)
+abbrev pub AllPass : Task → Items → Type 0
+AllPass task p = AllByRecursion (Passes task) (lines_of p)
 
 -- The last sentence outside all subproofs is the goal.
 abbrev pub Reaches : Sent → Items → Type 0
@@ -31,28 +31,28 @@ Reaches goal p = last_of None p ≡ Some goal
 
 -- Each line of the nested proof passes its tests, and the proof reaches the goal.
 pub record IsCorrect (task : Task) (p : Items) : Type 0 where
-  pub pass : AllPass task.premises p
+  pub pass : AllPass task p
   pub reached : Reaches task.goal p
 
 -- Line n is the least that fails a test, and this is its first fault.
-pub record FailsFirst (premises : List Sent) (p : Items) (n : ℕ) (fault : LineFault) : Type 0 where
-  pub before : AllByRecursion (λ (x : Placed). x.number < n → Passes premises x) (lines_of p)
+pub record FailsFirst (task : Task) (p : Items) (n : ℕ) (fault : LineFault) : Type 0 where
+  pub before : AllByRecursion (λ (x : Placed). x.number < n → Passes task x) (lines_of p)
   pub line : Placed
   pub there : Contains (lines_of p) line
   pub number : line.number ≡ n
-  pub fails : IsLineFault premises line (Some fault)
+  pub fails : IsLineFault task line (Some fault)
 
 -- Each line passes its tests, and the last one outside all subproofs, which is line n, isn't the goal; or there is none,
 -- and n is 0.
 pub record MissesGoal (task : Task) (p : Items) (n : ℕ) : Type 0 where
-  pub pass : AllPass task.premises p
+  pub pass : AllPass task p
   pub missed : Reaches task.goal p → ⊥
   pub last : n ≡ last_number 1 0 p
 
 -- What is to be said of a nested proof for the task.
 pub data IsJudged : Task → Items → Verdict → Type 0 where
   is_correct : (task : Task) (p : Items) → IsCorrect task p → IsJudged task p Correct
-  fails_first : (task : Task) (p : Items) (n : ℕ) (fault : LineFault) → FailsFirst task.premises p n fault → IsJudged task p (Wrong n fault)
+  fails_first : (task : Task) (p : Items) (n : ℕ) (fault : LineFault) → FailsFirst task p n fault → IsJudged task p (Wrong n fault)
   misses_goal : (task : Task) (p : Items) (n : ℕ) → MissesGoal task p n → IsJudged task p (Wrong n GoalNotReached)
 
 -- The text is that of the nested proof.

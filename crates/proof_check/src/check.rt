@@ -1,7 +1,8 @@
 ghost use Rattle.std.specs.Prelude.{◌≡◌, ◌≢◌, ◌<◌, length, Ok, IfOk};
+ghost use Rattle.std.specs.List.{AllByRecursion};
 ghost use Rattle.deriv_laws.specs.Derivable.{Der};
 ghost use Rattle.proof_check.specs.Judged.{IsVerdict, IsJudged, AllPass};
-ghost use Rattle.proof_check.specs.Readers.{OfLines, IsFirstFound};
+ghost use Rattle.proof_check.specs.Readers.{OfLines, IsFirstFound, StatesFit};
 
 use crate::ending::{last_outside, reaches};
 use crate::line::line_fault;
@@ -41,8 +42,9 @@ fn unreadable(place: u32, fault: TextFault) -> Result<Verdict, AllocError>
     }
 }
 
-/// The verdict on the lines of a proof.
+/// The verdict on the lines of a proof, whose sentences are within the limits.
 fn judge(alloc: Global, task: &Task, lines: &Lines) -> Result<Verdict, AllocError>
+    requires fit { AllByRecursion StatesFit lines.now }
     ensures judged { IfOk result (λ v. OfLines lines.now (λ p. IsJudged task.now p v)) }
 {
     match first_fault(alloc, task, lines)? {
@@ -60,12 +62,12 @@ struct Found {
 
 /// The least line that fails a test, and its first fault.
 fn first_fault(alloc: Global, task: &Task, lines: &Lines) -> Result<Option<Found>, AllocError>
-    ensures first { IfOk result (λ found. IsFirstFound task.now.premises lines.now found) }
+    requires fit { AllByRecursion StatesFit lines.now }
+    ensures first { IfOk result (λ found. IsFirstFound task.now lines.now found) }
 {
-    let premises = &task.premises;
     for i in 0..lines.as_slice().len() {
         let number = i as u32 + 1;
-        if let Some(fault) = line_fault(alloc, premises, lines, number)? {
+        if let Some(fault) = line_fault(alloc, task, lines, number)? {
             return Ok(Some(Found { number, fault }));
         }
     }
@@ -74,7 +76,7 @@ fn first_fault(alloc: Global, task: &Task, lines: &Lines) -> Result<Option<Found
 
 /// The verdict on lines that pass their tests.
 fn judge_end(task: &Task, lines: &Lines) -> Verdict
-    ensures judged { OfLines lines.now (λ p. AllPass task.now.premises p → IsJudged task.now p result) }
+    ensures judged { OfLines lines.now (λ p. AllPass task.now p → IsJudged task.now p result) }
 {
     let number = last_outside(lines.as_slice());
     if reaches(&task.goal, lines.as_slice(), number) {

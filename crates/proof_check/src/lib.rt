@@ -2,7 +2,9 @@
 #![tactic(auto)]
 
 mod check;
+mod consequence;
 mod ending;
+mod fresh;
 mod laws;
 mod line;
 #[cfg(test)]

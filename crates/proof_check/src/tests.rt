@@ -200,6 +200,82 @@ const QUANTIFIED: [(&str, &str, &str, &str); 21] = [
     ("A", "A", "1 | | [c] ; Box\n", "line 0: GoalNotReached"),
 ];
 
+/// The same for steps by tautological consequence; behind some goals stands what the task allows.
+const TAUTOLOGIES: [(&str, &str, &str, &str); 12] = [
+    (
+        "A | B",
+        "A\ncon Taut",
+        "1 | A | B ; Premise\n2 | A ; Taut Con: 1\n",
+        "line 2: NotTaut 3",
+    ),
+    (
+        "A | B",
+        "A",
+        "1 | A | B ; Premise\n2 | A ; Taut Con: 1\n",
+        "line 2: RuleNotAllowed",
+    ),
+    (
+        "A | B",
+        "A\ncon FO Ana",
+        "1 | A | B ; Premise\n2 | A ; Taut Con: 1\n",
+        "line 2: RuleNotAllowed",
+    ),
+    (
+        "A | B",
+        "A\ncon Taut FO Ana",
+        "1 | A | B ; Premise\n2 | A ; FO Con: 1\n",
+        "line 2: RuleNotAllowed",
+    ),
+    (
+        "A | B",
+        "A\ncon Taut",
+        "1 | A | B ; Premise\n2 | A ; Taut Con: 1, 1\n",
+        "line 2: NotTaut 3",
+    ),
+    (
+        "A $ B",
+        "~B $ ~A\ncon Taut",
+        "1 | A $ B ; Premise\n2 | ~B $ ~A ; Taut Con: 1\n",
+        "correct",
+    ),
+    (
+        "@x P(x)",
+        "P(a)\ncon Taut",
+        "1 | @x P(x) ; Premise\n2 | P(a) ; Taut Con: 1\n",
+        "line 2: NotTaut 2",
+    ),
+    (
+        "@x P(x)",
+        "@x P(x) | ^\ncon Taut",
+        "1 | @x P(x) ; Premise\n2 | @x P(x) | ^ ; Taut Con: 1\n",
+        "correct",
+    ),
+    (
+        "A",
+        "A\ncon Taut",
+        "1 | | B ; Assume\n2 | A ; Taut Con: 1\n",
+        "line 2: NotVisible 1",
+    ),
+    (
+        "A",
+        "A\ncon Taut",
+        "1 | | B ; Assume\n2 | A ; Taut Con: 1-1\n",
+        "line 2: WrongKind 1",
+    ),
+    (
+        "A",
+        "A | ~A\ncon Taut",
+        "1 | | [c] B ; Assume\n2 | | A | ~A ; Taut Con\n3 | A | ~A ; Taut Con\n",
+        "correct",
+    ),
+    (
+        "A",
+        "A\ncon Taut",
+        "1 | A & B & C & D & E & F & G & H & I & J & K & L & M & N & O & P & Q ; Taut Con\n",
+        "line 1: Letters 17",
+    ),
+];
+
 /// The verdict in short: what is wrong, and where.
 fn said(alloc: Global, verdict: &Verdict) -> Result<String, AllocError> {
     match verdict {
@@ -213,6 +289,12 @@ fn said(alloc: Global, verdict: &Verdict) -> Result<String, AllocError> {
         }
         Verdict::Wrong(number, LineFault::GoalNotReached) => {
             format!(in alloc; "line {}: GoalNotReached", *number)
+        }
+        Verdict::Wrong(number, LineFault::NotTaut(row)) => {
+            format!(in alloc; "line {}: NotTaut {}", *number, *row)
+        }
+        Verdict::Wrong(number, LineFault::Letters(count)) => {
+            format!(in alloc; "line {}: Letters {}", *number, *count)
         }
         Verdict::Wrong(number, _) => format!(in alloc; "line {}", *number),
         Verdict::Unreadable(place, TextFault::Number) => {
@@ -276,6 +358,15 @@ fn the_verdict_names_the_first_fault(rt: HostRuntime) {
 #[test]
 fn the_verdict_on_identity_quantifiers_and_boxes(rt: HostRuntime) {
     for (premise, goal, lines, want) in QUANTIFIED {
+        let said = judged(rt.alloc(), premise, goal, lines);
+        let right = said.is_ok_and(|said| said.as_str() == want);
+        assert!(rt; right, "{lines}");
+    }
+}
+
+#[test]
+fn the_verdict_on_tautological_consequence(rt: HostRuntime) {
+    for (premise, goal, lines, want) in TAUTOLOGIES {
         let said = judged(rt.alloc(), premise, goal, lines);
         let right = said.is_ok_and(|said| said.as_str() == want);
         assert!(rt; right, "{lines}");

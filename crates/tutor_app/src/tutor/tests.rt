@@ -150,7 +150,7 @@ fn ends_as_the_words_the_length_and_the_edges_say(rt: HostRuntime) -> Result<(),
 }
 
 /// An input, its exit status, and the line that is printed.
-const JUDGED: [(&str, u8, &str); 15] = [
+const JUDGED: [(&str, u8, &str); 20] = [
     (
         "task 1\npremise Cube(a) & Tet(b)\ngoal Tet(b) & Cube(a)\nproof 1\n1 | Cube(a) & Tet(b) ; Premise\n2 | Tet(b) ; & Elim: 2\n3 | Cube(a) ; & Elim: 1\n4 | Tet(b) & Cube(a) ; & Intro: 2, 3\n",
         1,
@@ -180,6 +180,31 @@ const JUDGED: [(&str, u8, &str); 15] = [
         "task 1\npremise A | B\ngoal A\nproof 1\n1 | A | B ; Premise\n2 | A ; Taut Con: 1\n",
         1,
         "wrong line 2: RuleNotAllowed\n",
+    ),
+    (
+        "task 1\npremise A | B\ngoal A\ncon Taut\nproof 1\n1 | A | B ; Premise\n2 | A ; Taut Con: 1\n",
+        1,
+        "wrong line 2: NotTaut 3\n",
+    ),
+    (
+        "task 1\npremise A | B\ngoal A\ncon FO Taut\nproof 1\n1 | A | B ; Premise\n2 | A ; Taut Con: 1, 1\n",
+        1,
+        "wrong line 2: NotTaut 3\n",
+    ),
+    (
+        "task 1\npremise @x P(x)\ngoal P(a)\ncon Taut\nproof 1\n1 | @x P(x) ; Premise\n2 | P(a) ; Taut Con: 1\n",
+        1,
+        "wrong line 2: NotTaut 2\n",
+    ),
+    (
+        "task 1\npremise A $ B\ngoal ~B $ ~A\ncon Taut\nproof 1\n1 | A $ B ; Premise\n2 | ~B $ ~A ; Taut Con: 1\n",
+        0,
+        "correct\n",
+    ),
+    (
+        "task 1\ngoal A\ncon Taut\nproof 1\n1 | A & B & C & D & E & F & G & H & I & J & K & L & M & N & O & P & Q ; Taut Con\n",
+        1,
+        "wrong line 1: Letters 17\n",
     ),
     (
         "task 1\npremise A\ngoal B\nproof 1\n1 | B ; Premise\n",

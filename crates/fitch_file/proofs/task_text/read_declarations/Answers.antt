@@ -1,6 +1,7 @@
 use Rattle.std.proofs.Common.{◌-◌, true, false, length, refl, sym, subst, ◌∙◌, arith, inr}
 use Rattle.std.specs.Str.Lines.{lines}
-use Rattle.fitch_file.specs.Physical.{IsHeaded, task_header}
+use Rattle.physical_lines.specs.Physical.{IsHeaded}
+use Rattle.fitch_file.specs.Headers.{task_header}
 use Rattle.fitch_file.specs.Words.{begins_proof}
 use Rattle.fitch_file.proofs.Tasking.{Tasked, tasked_start, tasked_more, headed, IsOver, over_at_proof, over_at_end, Finishes, over_read, over_exact, over_refused, refused_at, memory_at}
 use Rattle.fitch_file.proofs.task_text.read_declarations.Goals as goal

@@ -1,8 +1,9 @@
 use Rattle.std.proofs.Common.{refl, inl, inr}
 use Rattle.std.specs.Str.Lines.{lines}
-use Rattle.fitch_file.specs.Physical.{LacksHeader, task_header}
+use Rattle.physical_lines.specs.Physical.{LacksHeader}
+use Rattle.fitch_file.specs.Headers.{task_header}
 use Rattle.fitch_file.specs.TaskFaults.{no_header}
-use Rattle.fitch_file.proofs.Heading.{lacks_not_headed}
+use Rattle.physical_lines.proofs.Heading.{lacks_not_headed}
 use Rattle.fitch_file.proofs.task_text.read_task.Goals as goal
 
 pub returns-else-is_header-clause-exact : goal.returns-else-is_header-clause-exact

@@ -1,7 +1,7 @@
 ghost use Rattle.std.specs.Prelude.{◌≡◌, ◌↔◌, ◌≤◌, ◌+◌, ◌<◌, length, IsTrue, MatchOption, MatchResult};
 ghost use Rattle.std.specs.Str.Lines.{lines};
-ghost use Rattle.fitch_file.specs.TaskReaders.{LeadsTo};
-ghost use Rattle.fitch_file.specs.Physical.{IsBlankLine, AreBlank, ComesFirst, IsHeaded, LacksHeader};
+ghost use Rattle.physical_lines.specs.Leading.{LeadsTo};
+ghost use Rattle.physical_lines.specs.Physical.{IsBlankLine, AreBlank, ComesFirst, IsHeaded, LacksHeader};
 
 use texts::{next_line, trim_end, trim_start};
 
@@ -16,14 +16,14 @@ pub struct Physical<'a> {
 }
 
 /// Whether the line has no byte but blanks.
-pub(crate) fn is_blank(line: &[u8]) -> bool
+pub fn is_blank(line: &[u8]) -> bool
     ensures { IsTrue result ↔ IsBlankLine line.now }
 {
     trim_start(line).is_empty()
 }
 
 /// The first physical line that isn't blank.
-pub(crate) fn first_line(text: &[u8]) -> Option<Physical<'_>>
+pub fn first_line(text: &[u8]) -> Option<Physical<'_>>
     requires { length text.now < 4294967296 }
     ensures value { MatchOption result (AreBlank (lines text.now)) (λ p. ComesFirst 1 (lines text.now) p.place p.line.now (lines p.rest.now)) }
     ensures within { MatchOption result (Unit {0}) (λ p. p.place + length p.rest.now ≤ length text.now) }
@@ -46,7 +46,7 @@ pub(crate) fn first_line(text: &[u8]) -> Option<Physical<'_>>
 }
 
 /// The number of the line that is the header, and what follows; or the number of the line where it is missing.
-pub(crate) fn after_header<'a>(text: &'a [u8], header: &[u8]) -> Result<(u32, &'a [u8]), u32>
+pub fn after_header<'a>(text: &'a [u8], header: &[u8]) -> Result<(u32, &'a [u8]), u32>
     requires { length text.now < 4294967296 }
     ensures value { MatchResult result (λ p. IsHeaded header.now (lines text.now) p.0 (lines p.1.now)) (λ n. LacksHeader header.now (lines text.now) n) }
     ensures within { MatchResult result (λ p. p.0 + length p.1.now ≤ length text.now) (λ n. Unit {0}) }

@@ -1,8 +1,8 @@
 use Rattle.std.proofs.Common.{ℕ, ◌+◌, ◌≤◌, List, length}
 use Rattle.std.specs.Str.Lines.{lines}
-use Rattle.fitch_file.specs.TaskReaders.{LeadsTo}
-use Rattle.fitch_file.specs.Physical.{AreBlank, ComesFirst}
-use Rattle.fitch_file.proofs.physical.first_line.Given as goal
+use Rattle.physical_lines.specs.Leading.{LeadsTo}
+use Rattle.physical_lines.specs.Physical.{AreBlank, ComesFirst}
+use Rattle.physical_lines.proofs.physical.first_line.Given as goal
 
 abbrev pub invariant-loop-line : goal.invariant-loop-line
 invariant-loop-line l = record {

@@ -1,5 +1,5 @@
 -- Physical lines, of which the blank ones are skipped but counted, and headers.
-use Rattle.std.specs.Prelude.{◌≡◌, ℕ, ◌+◌, List, [], ◌∷◌, codes, ◌⊎◌}
+use Rattle.std.specs.Prelude.{◌≡◌, ℕ, ◌+◌, List, [], ◌∷◌, ◌⊎◌}
 use Rattle.std.specs.List.{AllByRecursion}
 use Rattle.texts.specs.Blanks.{after_blanks, before_blanks}
 
@@ -38,10 +38,3 @@ pub record HasOther (header : List ℕ) (lines : List (List ℕ)) (n : ℕ) : Ty
 -- The header is missing at the physical line n: another line stands there, or each line is blank, and n is 1.
 abbrev pub LacksHeader : List ℕ → List (List ℕ) → ℕ → Type 0
 LacksHeader header lines n = HasOther header lines n ⊎ (AreBlank lines × (n ≡ 1))
-
--- The headers of a task text and of a proof text.
-abbrev pub task_header : List ℕ
-task_header = codes "task 1"
-
-abbrev pub proof_header : List ℕ
-proof_header = codes "proof 1"

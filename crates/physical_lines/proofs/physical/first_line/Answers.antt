@@ -1,8 +1,8 @@
 use Rattle.std.proofs.Common.{◌+◌, sym, subst, arith, rules}
 use Rattle.std.specs.Str.Lines.{lines}
-use Rattle.fitch_file.specs.TaskReaders.{leads_here, leads_on}
-use Rattle.fitch_file.specs.Physical.{IsBlankLine, AreBlank, ComesFirst, at_once, past_blank}
-use Rattle.fitch_file.proofs.physical.first_line.Goals as goal
+use Rattle.physical_lines.specs.Leading.{leads_here, leads_on}
+use Rattle.physical_lines.specs.Physical.{IsBlankLine, AreBlank, ComesFirst, at_once, past_blank}
+use Rattle.physical_lines.proofs.physical.first_line.Goals as goal
 
 pub returns-then-not-is_blank-clause-value : goal.returns-then-not-is_blank-clause-value
 returns-then-not-is_blank-clause-value c =

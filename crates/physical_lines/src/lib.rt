@@ -1,0 +1,8 @@
+//! The physical lines of a text: blank ones are skipped but counted, and the first other one may be a header.
+#![tactic(auto)]
+
+mod physical;
+#[cfg(test)]
+mod tests;
+
+pub use physical::{Physical, after_header, first_line, is_blank};

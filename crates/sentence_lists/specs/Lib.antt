@@ -1,0 +1,3 @@
+pub mod SentenceLines
+pub mod Readers
+pub mod Laws

@@ -1,0 +1,11 @@
+pub mod Equations
+pub mod Induction
+pub mod Gathering
+pub mod Placing
+pub mod Encoding
+pub mod Compiling
+pub mod Searching
+pub mod Bounding
+pub mod Deciding
+pub mod Cases
+pub mod Sound

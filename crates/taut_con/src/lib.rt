@@ -1,0 +1,20 @@
+//! Truth tables of propositional logic, and the rule of tautological consequence.
+#![tactic(auto)]
+
+mod answer;
+mod consequence;
+mod evaluation;
+mod formula;
+mod laws;
+mod letters;
+mod rows;
+#[cfg(test)]
+mod tests;
+mod values;
+
+pub use answer::TautAnswer;
+pub use consequence::taut_con;
+pub use laws::tautology_laws;
+pub use letters::letters_of;
+pub use rows::letter_in_row;
+pub use values::truth_value;
