@@ -17,3 +17,6 @@ front_and_rest left bytes seen room piece at n is same moved fits =
 -- Past the last byte nothing is left.
 pub nothing_left : (bytes : List ℕ) (at : ℕ) → length bytes ≤ at → drop at bytes ≡ []
 nothing_left bytes at past = nil_from_length (drop at bytes) (omega (arith, length-drop at bytes))
+
+pub nothing_left_of : {X : Type 0} (xs : List X) (at : ℕ) → length xs ≤ at → drop at xs ≡ []
+nothing_left_of xs at past = nil_from_length (drop at xs) (omega (arith, length-drop at xs))

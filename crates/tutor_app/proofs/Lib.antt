@@ -2,3 +2,5 @@ pub mod Transferring
 pub mod CheckReplies
 pub mod Answering
 pub mod Telling
+pub mod Evaluating
+pub mod TellingShelves

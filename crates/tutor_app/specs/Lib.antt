@@ -5,3 +5,6 @@ pub mod Report
 pub mod Check
 pub mod CheckLaws
 pub mod Words
+pub mod ShelvedRun
+pub mod World
+pub mod WorldLaws

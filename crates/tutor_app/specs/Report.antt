@@ -9,6 +9,8 @@ use Rattle.fitch_file.specs.declared.fault.TextFault.{TextFault}
 use Rattle.fitch_file.specs.declared.fault.TextFault.TheVariants as text
 use Rattle.fitch_file.specs.declared.fault.TaskFault.{TaskFault}
 use Rattle.fitch_file.specs.declared.fault.TaskFault.TheVariants as task
+use Rattle.sentence_lists.specs.declared.list.ListFault.{ListFault}
+use Rattle.sentence_lists.specs.declared.list.ListFault.TheVariants as list
 use Rattle.proof_check.specs.declared.verdict.LineFault.{LineFault}
 use Rattle.proof_check.specs.declared.verdict.LineFault.TheVariants as line
 use Rattle.proof_check.specs.declared.verdict.Verdict.{Verdict}
@@ -72,6 +74,12 @@ task_text (task.Sentence refusal) = codes "Sentence " ++ refusal_text refusal
 task_text task.NoGoal = codes "NoGoal"
 task_text task.TooManyPremises = codes "TooManyPremises"
 task_text task.Memory = codes "Memory"
+
+-- The fault of a list of sentences by its name, with the refusal of the sentence.
+abbrev pub list_text : ListFault → List ℕ
+list_text (list.Sentence refusal) = codes "Sentence " ++ refusal_text refusal
+list_text list.TooManySentences = codes "TooManySentences"
+list_text list.Memory = codes "Memory"
 
 -- A printed line: what is said, the number of a line, and its fault.
 abbrev pub report : List ℕ → ℕ → List ℕ → List ℕ

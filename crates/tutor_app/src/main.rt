@@ -1,22 +1,25 @@
-//! The program: the command `check` judges the proof that standard input gives.
+//! The program: `check` judges the proof that standard input gives, and `world` evaluates sentences in a world.
 #![tactic(auto)]
 
 mod check;
 mod report;
+mod shelved;
 mod tool;
 mod transfer;
 mod tutor;
 mod words;
+mod world;
 
 use crate::tutor::Status;
-use edge_io::{Reading, Writing};
+use edge_io::{Folder, Reading, Writing};
 use std::process::ExitCode;
 
 fn main(rt: HostRuntime) -> ExitCode {
     let mut input = Reading::new(rt.stdin());
     let mut output = Writing::new(rt.stdout());
+    let mut shelf = Folder::new(&rt);
     let status = match words::words_of_program(&rt) {
-        Ok(words) => tutor::tutor(rt.alloc(), &words, &mut input, &mut output),
+        Ok(words) => tutor::tutor(rt.alloc(), &words, &mut input, &mut output, &mut shelf),
         Err(_) => Status { code: 7 },
     };
     ExitCode::from(status.code)

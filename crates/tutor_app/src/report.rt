@@ -1,5 +1,6 @@
 ghost use Rattle.std.specs.Prelude.{◌≡◌, ◌≢◌, ◌++◌, IfOk, codes};
 ghost use Rattle.fitch_file.specs.declared.fault.TaskFault.TheVariants as task;
+ghost use Rattle.sentence_lists.specs.declared.list.ListFault.TheVariants as list;
 ghost use Rattle.tutor_app.specs.Report as report;
 
 use crate::tool::Reply;
@@ -8,6 +9,7 @@ use edge_io::Bytes;
 use fitch_file::{TaskFault, TextFault};
 use fol_text::ReadFault;
 use proof_check::{LineFault, Verdict};
+use sentence_lists::ListFault;
 use std::alloc::{AllocError, Global};
 
 /// The reply with the verdict on a proof text, before which so many physical lines stand in the input.
@@ -46,6 +48,16 @@ pub(crate) fn task_reply(alloc: Global, line: u32, fault: TaskFault) -> Result<R
     match fault {
         TaskFault::Memory => Err(AllocError),
         fault => unreadable(alloc, u64::from(line), &task_text(alloc, fault)?),
+    }
+}
+
+/// The reply to an input whose physical line `line` has this fault as a list of sentences.
+pub(crate) fn list_reply(alloc: Global, line: u32, fault: ListFault) -> Result<Reply, AllocError>
+    ensures reply { IfOk result (λ reply. (fault ≢ list.Memory) × (reply ≡ report.unreadable_reply line (report.list_text fault))) }
+{
+    match fault {
+        ListFault::Memory => Err(AllocError),
+        fault => unreadable(alloc, u64::from(line), &list_text(alloc, fault)?),
     }
 }
 
@@ -126,6 +138,16 @@ fn task_text(alloc: Global, fault: TaskFault) -> Result<Bytes, AllocError>
         TaskFault::NoGoal => Bytes::from_slice(alloc, b"NoGoal"),
         TaskFault::TooManyPremises => Bytes::from_slice(alloc, b"TooManyPremises"),
         TaskFault::Memory => Bytes::from_slice(alloc, b"Memory"),
+    }
+}
+
+fn list_text(alloc: Global, fault: ListFault) -> Result<Bytes, AllocError>
+    ensures text { IfOk result (λ text. text ≡ report.list_text fault) }
+{
+    match fault {
+        ListFault::Sentence(refusal) => sentence_text(alloc, refusal),
+        ListFault::TooManySentences => Bytes::from_slice(alloc, b"TooManySentences"),
+        ListFault::Memory => Bytes::from_slice(alloc, b"Memory"),
     }
 }
 

@@ -8,7 +8,7 @@ use std::alloc::Global;
 use thiserror::Error;
 
 /// The most bytes that an input may have.
-const INPUT_LIMIT: usize = 262_144;
+pub const INPUT_LIMIT: usize = 262_144;
 
 /// The most bytes that are asked for at once.
 const ROOM: usize = 65_536;

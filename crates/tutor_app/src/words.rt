@@ -1,3 +1,5 @@
+ghost use Rattle.std.specs.Prelude.{◌≡◌};
+ghost use Rattle.tutor_app.specs.Words as spec;
 ghost use Rattle.tutor_app.specs.Words.{AskFor};
 
 use edge_io::Bytes;
@@ -10,21 +12,33 @@ use std::rt::Env;
 pub type Words = Listed<Bytes>;
 
 /// What a command line asks for.
-#[derive(Clone, Copy, Debug, PartialEq, Eq)]
-pub enum Command {
+pub enum Command<'a> {
     /// To check the proof that the input gives.
     Check,
+    /// To evaluate the sentences that the input lists in the world of this name.
+    World(&'a Bytes),
     /// Nothing that the program knows.
     Refused,
 }
 
 /// The command that the words ask for.
-pub fn command_of(words: &Words) -> Command
+pub fn command_of(words: &Words) -> Command<'_>
     ensures asked { AskFor words.now result }
 {
     match words.as_slice() {
         [word] if word.is(b"check") => Command::Check,
+        [word, name] if word.is(b"world") && is_name(name) => Command::World(name),
         _ => Command::Refused,
+    }
+}
+
+/// Whether the word may be a name: it isn't empty, and doesn't begin with `-`.
+fn is_name(word: &Bytes) -> bool
+    ensures value { result ≡ spec.is_name word.now }
+{
+    match word.as_slice() {
+        [] => false,
+        [first, ..] => *first != b'-',
     }
 }
 

@@ -1,6 +1,6 @@
 use super::tests::words_of;
 use super::*;
-use edge_io::{MemSink, MemSource};
+use edge_io::{MemShelf, MemSink, MemSource};
 use std::test::Fail;
 
 /// A proof that the parts of a conjunction may change places.
@@ -83,7 +83,8 @@ fn a_proof_cut_after_each_byte(rt: HostRuntime) -> Result<(), Fail> {
         let bytes = SWAP.as_bytes();
         let mut input = MemSource::new(alloc, &bytes[..length], 64, &[])?;
         let mut output = MemSink::new(alloc, 100, 64, &[])?;
-        let status = tutor(alloc, &words, &mut input, &mut output);
+        let mut shelf = MemShelf::new(alloc, &[])?;
+        let status = tutor(alloc, &words, &mut input, &mut output, &mut shelf);
         assert_eq!(rt; status.code, code, "cut after {length} bytes");
         assert_eq!(rt; output.taken(), line.as_bytes(), "cut after {length} bytes");
     }

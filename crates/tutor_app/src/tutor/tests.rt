@@ -1,7 +1,7 @@
 ghost use Rattle.std.specs.Prelude.{◌<◌};
 
 use super::*;
-use edge_io::{Bytes, MemSink, MemSource};
+use edge_io::{Bytes, MemShelf, MemSink, MemSource};
 use std::alloc::AllocError;
 use std::test::Fail;
 
@@ -131,7 +131,8 @@ fn run(alloc: Global, case: &Case<'_>) -> Result<(u8, MemSource, MemSink), Alloc
     let mut input = MemSource::new(alloc, &bytes, case.piece, case.reads_fail)?;
     let mut output = MemSink::new(alloc, case.room, case.piece, case.writes_fail)?;
     let words = words_of(alloc, case.words)?;
-    let status = tutor(alloc, &words, &mut input, &mut output);
+    let mut shelf = MemShelf::new(alloc, &[])?;
+    let status = tutor(alloc, &words, &mut input, &mut output, &mut shelf);
     Ok((status.code, input, output))
 }
 
@@ -256,7 +257,8 @@ fn prints_the_verdict(rt: HostRuntime) -> Result<(), Fail> {
     for (text, code, line) in JUDGED {
         let mut input = MemSource::new(alloc, text.as_bytes(), 7, &[])?;
         let mut output = MemSink::new(alloc, 100, 3, &[])?;
-        let status = tutor(alloc, &words, &mut input, &mut output);
+        let mut shelf = MemShelf::new(alloc, &[])?;
+        let status = tutor(alloc, &words, &mut input, &mut output, &mut shelf);
         assert_eq!(rt; status.code, code, "{text}");
         assert_eq!(rt; output.taken(), line.as_bytes(), "{text}");
     }

@@ -1,0 +1,15 @@
+pub mod Bearing
+pub mod Forms
+pub mod Letters
+pub mod Naming
+pub mod Numbers
+pub mod Placing
+pub mod Printing
+pub mod PrintedBack
+pub mod Parts
+pub mod LinesRead
+pub mod Putting
+pub mod Saturating
+pub mod Saying
+pub mod Squaring
+pub mod Wording

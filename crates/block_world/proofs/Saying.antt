@@ -1,0 +1,21 @@
+-- What a predicate says of more than three places: nothing.
+use Rattle.std.proofs.Common.{◌≡◌, ℕ, ◌≤◌, Bool, false, List, [], ◌∷◌, length, map, arith, refl}
+use Rattle.std.specs.Prelude.{Option, Some, None}
+use Rattle.fol_core.specs.declared.sent.Term.{Term}
+use Rattle.block_world.specs.declared.block.Block.{Block}
+use Rattle.block_world.specs.declared.predicate.Predicate.{Predicate}
+use Rattle.block_world.specs.Predicates.{says, is_true_of}
+
+four : (q : Predicate) (o p r s : Option Block) (bs : List (Option Block)) → says q (o ∷ p ∷ r ∷ s ∷ bs) ≡ false
+four q None p r s bs = refl
+four q (Some b) None r s bs = refl
+four q (Some b) (Some c) None s bs = refl
+four q (Some b) (Some c) (Some d) s bs = refl
+
+pub many_places : (o : Option Predicate) (f : Term → Option Block) (ts : List Term) → 4 ≤ length ts → is_true_of o (map f ts) ≡ false
+many_places None f ts h = refl
+many_places (Some q) f [] h = absurd (omega (arith, h))
+many_places (Some q) f (t ∷ []) h = absurd (omega (arith, h))
+many_places (Some q) f (t ∷ u ∷ []) h = absurd (omega (arith, h))
+many_places (Some q) f (t ∷ u ∷ v ∷ []) h = absurd (omega (arith, h))
+many_places (Some q) f (t ∷ u ∷ v ∷ x ∷ ts) h = four q (f t) (f u) (f v) (f x) (map f ts)

@@ -1,0 +1,75 @@
+-- Whether a sentence has a value in a world, and what is answered.
+use Rattle.std.specs.Prelude.{ℕ, Bool, true, not, ◌&&◌, List, length, nat_lt, Result, Ok, Err, if◌then◌else◌}
+use Rattle.std.specs.List.{list_all, list_any}
+use Rattle.fol_core.specs.Word.{Word}
+use Rattle.fol_core.specs.Subst.{itself}
+use Rattle.fol_core.specs.declared.sent.Term.{Term}
+use Rattle.fol_core.specs.declared.sent.Term.TheVariants.{Var, Name}
+use Rattle.fol_core.specs.declared.sent.Sent.{Sent}
+use Rattle.fol_core.specs.declared.sent.Sent.TheOpen.{Sent-F}
+use Rattle.fol_core.specs.declared.sent.Sent.TheOpen as f
+use Rattle.fol_core.specs.declared.sent.Sent.TheFolds.{fold-Sent}
+use Rattle.block_world.specs.declared.block.Block.{Block}
+use Rattle.block_world.specs.declared.answer.TruthFault.{TruthFault}
+use Rattle.block_world.specs.declared.answer.TruthFault.TheVariants.{NotBlocks, NoSuchName, TooLarge}
+use Rattle.block_world.specs.Geometry.{is_named}
+use Rattle.block_world.specs.Predicates.{predicate_of, is_of_blocks}
+use Rattle.block_world.specs.Assignments.{own_names}
+use Rattle.block_world.specs.Truth.{val}
+use Rattle.block_world.specs.Work.{units}
+
+-- One form of sentence: its predicate is one of the blocks language, and so are those of its parts.
+abbrev pub blocks_step : Sent-F Bool → Bool
+blocks_step (f.Atom p ts) = is_of_blocks (predicate_of p) (length ts)
+blocks_step (f.Eq s t) = true
+blocks_step f.Bottom = true
+blocks_step (f.Not b) = b
+blocks_step (f.And bs) = list_all itself bs
+blocks_step (f.Or bs) = list_all itself bs
+blocks_step (f.If b c) = b && c
+blocks_step (f.Iff b c) = b && c
+blocks_step (f.All x b) = b
+blocks_step (f.Ex x b) = b
+
+-- Each predicate that stands in the sentence is one of the blocks language, with its number of places.
+abbrev pub in_blocks : Sent → Bool
+in_blocks = fold-Sent Bool blocks_step
+
+-- Some block of the world has the name.
+abbrev pub is_borne : List Block → Word → Bool
+is_borne w n = list_any (is_named n) w
+
+-- The term is a variable, or a name that a block of the world has.
+abbrev pub has_block : List Block → Term → Bool
+has_block w (Var x) = true
+has_block w (Name n) = is_borne w n
+
+-- One form of sentence: each name in it is one that a block has.
+abbrev pub borne_step : List Block → Sent-F Bool → Bool
+borne_step w (f.Atom p ts) = list_all (has_block w) ts
+borne_step w (f.Eq s t) = has_block w s && has_block w t
+borne_step w f.Bottom = true
+borne_step w (f.Not b) = b
+borne_step w (f.And bs) = list_all itself bs
+borne_step w (f.Or bs) = list_all itself bs
+borne_step w (f.If b c) = b && c
+borne_step w (f.Iff b c) = b && c
+borne_step w (f.All x b) = b
+borne_step w (f.Ex x b) = b
+
+-- Each name that stands in the sentence is one that a block of the world has.
+abbrev pub all_borne : List Block → Sent → Bool
+all_borne w = fold-Sent Bool (borne_step w)
+
+-- The greatest work that a sentence may be.
+abbrev pub most_units : ℕ
+most_units = 20000000
+
+-- The answer on a sentence in a world: NotBlocks where a predicate is outside the blocks language; else NoSuchName where a
+-- name is one that no block has; else TooLarge where its work is over the limit; else its value by the world's own names.
+abbrev pub truth_of : List Block → Sent → Result Bool TruthFault
+truth_of w s =
+    if not (in_blocks s) then Err NotBlocks
+    else (if not (all_borne w s) then Err NoSuchName
+    else (if nat_lt most_units (units (length w) s) then Err TooLarge
+    else Ok (val w (own_names w) s)))

@@ -1,0 +1,15 @@
+pub mod Geometry
+pub mod Predicates
+pub mod Worlds
+pub mod Invariants
+pub mod Assignments
+pub mod Places
+pub mod Bound
+pub mod Truth
+pub mod Work
+pub mod Answers
+pub mod Lines
+pub mod BlockLines
+pub mod WorldText
+pub mod Squares
+pub mod Printed
