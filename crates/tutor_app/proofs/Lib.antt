@@ -4,3 +4,4 @@ pub mod Answering
 pub mod Telling
 pub mod Evaluating
 pub mod TellingShelves
+pub mod Tabulating

@@ -8,3 +8,5 @@ pub mod Words
 pub mod ShelvedRun
 pub mod World
 pub mod WorldLaws
+pub mod Table
+pub mod TableLaws

@@ -1,9 +1,10 @@
-//! The program: `check` judges the proof that standard input gives, and `world` evaluates sentences in a world.
+//! The program: `check` judges a proof, `table` prints a truth table, and `world` evaluates sentences in a world.
 #![tactic(auto)]
 
 mod check;
 mod report;
 mod shelved;
+mod table;
 mod tool;
 mod transfer;
 mod tutor;

@@ -2,6 +2,7 @@ ghost use Rattle.std.specs.Prelude.{◌≡◌, ◌≢◌, ◌++◌, IfOk, codes}
 ghost use Rattle.fitch_file.specs.declared.fault.TaskFault.TheVariants as task;
 ghost use Rattle.sentence_lists.specs.declared.list.ListFault.TheVariants as list;
 ghost use Rattle.tutor_app.specs.Report as report;
+ghost use Rattle.tutor_app.specs.Table as table;
 
 use crate::tool::Reply;
 use deriv_laws::StepFault;
@@ -59,6 +60,25 @@ pub(crate) fn list_reply(alloc: Global, line: u32, fault: ListFault) -> Result<R
         ListFault::Memory => Err(AllocError),
         fault => unreadable(alloc, u64::from(line), &list_text(alloc, fault)?),
     }
+}
+
+/// The reply to an input that lists no sentence.
+pub(crate) fn no_sentence_reply(alloc: Global) -> Result<Reply, AllocError>
+    ensures reply { IfOk result (λ reply. reply ≡ report.unreadable_reply 1 (codes "NoSentence")) }
+{
+    unreadable(alloc, 1, &Bytes::from_slice(alloc, b"NoSentence")?)
+}
+
+/// The reply to sentences that have so many letters, too many for a table.
+pub(crate) fn letters_reply(alloc: Global, count: u32) -> Result<Reply, AllocError>
+    ensures reply { IfOk result (λ reply. reply ≡ table.letters_reply count) }
+{
+    let mut line = with_number(alloc, b"refused TooManyLetters", count)?;
+    line.add(b'\n')?;
+    Ok(Reply {
+        code: 3,
+        text: line,
+    })
 }
 
 fn unreadable(alloc: Global, line: u64, fault: &Bytes) -> Result<Reply, AllocError>

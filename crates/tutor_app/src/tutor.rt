@@ -1,4 +1,4 @@
-ghost use Rattle.std.specs.Prelude.{◌≡◌, ◌↔◌, ℕ, List, Some, IsTrue};
+ghost use Rattle.std.specs.Prelude.{◌≡◌, ◌≢◌, ◌↔◌, ℕ, List, Some, IsTrue};
 ghost use Rattle.edge_io.specs.Causes.{Rose};
 ghost use Rattle.edge_io.specs.Shelves.{TextsByName};
 ghost use Rattle.tutor_app.specs.Check.{check_answers, check_words, ReadsTree};
@@ -6,10 +6,12 @@ ghost use Rattle.tutor_app.specs.Reply.{IsReplyCode};
 ghost use Rattle.tutor_app.specs.Run.{ToolRuns, ToolRunsOn};
 ghost use Rattle.tutor_app.specs.ShelvedRun.{ShelvedRuns, ShelvedRunsOn, Says};
 ghost use Rattle.tutor_app.specs.Words.{AskForNothing, is_name};
+ghost use Rattle.tutor_app.specs.Table.{table_answers, table_words};
 ghost use Rattle.tutor_app.specs.World.{world_words, text_answers, IsWorldText};
 
 use crate::check::Check;
 use crate::shelved::run_world;
+use crate::table::Tabulate;
 use crate::tool::{Reply, Tool};
 use crate::transfer::{Unread, read_whole, write_whole};
 use crate::words::{Command, Words, command_of};
@@ -39,6 +41,11 @@ pub fn tutor<S: Source, W: Sink, F: Shelf>(
     ensures told { words.now ≡ check_words → (bytes : List ℕ) → S.left input.old ≡ Some bytes →
         ToolRunsOn check_answers bytes (S.left input.new) (W.taken output.old) (W.taken output.new) result.code }
 
+    ensures table { words.now ≡ table_words →
+        ToolRuns table_answers (S.left input.old) (S.left input.new) (W.taken output.old) (W.taken output.new) result.code }
+    ensures table_told { words.now ≡ table_words → (bytes : List ℕ) → S.left input.old ≡ Some bytes →
+        ToolRunsOn table_answers bytes (S.left input.new) (W.taken output.old) (W.taken output.new) result.code }
+
     ensures world { (name : List ℕ) → words.now ≡ world_words name → IsTrue (is_name name) →
         ShelvedRuns IsWorldText text_answers (F.texts shelf.old) name (input.new ≡ input.old) (S.left input.old) (S.left input.new) (W.taken output.old) (W.taken output.new) result.code }
     ensures world_told { (name : List ℕ) → words.now ≡ world_words name → IsTrue (is_name name) →
@@ -48,7 +55,8 @@ pub fn tutor<S: Source, W: Sink, F: Shelf>(
     // Words that ask for no command: nothing is read or written.
     ensures words { (result.code ≡ 2) ↔ AskForNothing words.now }
     ensures untouched { AskForNothing words.now → (input.new ≡ input.old) × (output.new ≡ output.old) × (shelf.new ≡ shelf.old) }
-    ensures check_shelf { words.now ≡ check_words → shelf.new ≡ shelf.old }
+    // The other commands leave the shelf alone.
+    ensures shelf_idle { ((name : List ℕ) → words.now ≢ world_words name) → shelf.new ≡ shelf.old }
 
     // Where `check` ends with status 0, the goal that was read has a natural-deduction tree from its premises.
     ensures proved { words.now ≡ check_words → result.code ≡ 0 → ReadsTree (S.left input.old) (S.left input.new) }
@@ -64,6 +72,7 @@ pub fn tutor<S: Source, W: Sink, F: Shelf>(
 {
     let code = match command_of(words) {
         Command::Check => run_check(alloc, input, output),
+        Command::Table => run_tool(alloc, &Tabulate, input, output),
         Command::World(name) => run_world(alloc, name, input, output, shelf),
         Command::Refused => 2,
     };
@@ -122,6 +131,8 @@ pub(crate) fn run_tool<T: Tool, S: Source, W: Sink>(
 
 #[cfg(test)]
 mod cuts;
+#[cfg(test)]
+mod table_tests;
 #[cfg(test)]
 mod tests;
 #[cfg(test)]

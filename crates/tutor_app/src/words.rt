@@ -15,6 +15,8 @@ pub type Words = Listed<Bytes>;
 pub enum Command<'a> {
     /// To check the proof that the input gives.
     Check,
+    /// To make the truth table of the sentences that the input lists.
+    Table,
     /// To evaluate the sentences that the input lists in the world of this name.
     World(&'a Bytes),
     /// Nothing that the program knows.
@@ -27,6 +29,7 @@ pub fn command_of(words: &Words) -> Command<'_>
 {
     match words.as_slice() {
         [word] if word.is(b"check") => Command::Check,
+        [word] if word.is(b"table") => Command::Table,
         [word, name] if word.is(b"world") && is_name(name) => Command::World(name),
         _ => Command::Refused,
     }

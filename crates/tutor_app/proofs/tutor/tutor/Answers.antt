@@ -1,5 +1,6 @@
 use Rattle.std.proofs.Common.{◌≡◌, subst}
 use Rattle.tutor_app.specs.Check.{check_answers}
+use Rattle.tutor_app.specs.Table.{table_answers}
 use Rattle.tutor_app.specs.ShelvedRun.{ShelvedRuns}
 use Rattle.tutor_app.specs.World.{IsWorldText, text_answers}
 use Rattle.tutor_app.proofs.Telling.{told_runs}
@@ -20,3 +21,7 @@ pub returns-in-World-clause-world_told : goal.returns-in-World-clause-world_told
 returns-in-World-clause-world_told g c = λ name e p texts h bytes k.
     told_shelved IsWorldText text_answers (g.F.Shelf.texts c.args.shelf.now) texts name (c.run_world-code.new.input ≡ c.args.input.now) bytes (g.S.Source.left c.args.input.now) (g.S.Source.left c.run_world-code.new.input)
     (g.W.Sink.taken c.args.output.now) (g.W.Sink.taken c.run_world-code.new.output) c.run_world-code.result h k (returns-in-World-clause-world g c name e p)
+
+pub returns-in-Table-clause-table_told : goal.returns-in-Table-clause-table_told
+returns-in-Table-clause-table_told g c = λ _ bytes e.
+    told_runs table_answers bytes (g.S.Source.left c.args.input.now) (g.S.Source.left c.run_tool-code.new.input) (g.W.Sink.taken c.args.output.now) (g.W.Sink.taken c.run_tool-code.new.output) c.run_tool-code.result e c.run_tool-code.ensures.runs

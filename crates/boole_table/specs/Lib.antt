@@ -1,0 +1,13 @@
+pub mod WrittenLines
+pub mod Asked
+pub mod ListLines
+pub mod RowLines
+pub mod AnswerLines
+pub mod TableLines
+pub mod TableFaults
+pub mod PrintedTable
+pub mod Readers
+pub mod StandardTable
+pub mod Questions
+pub mod Verdict
+pub mod Judges
