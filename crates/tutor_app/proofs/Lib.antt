@@ -5,3 +5,4 @@ pub mod Telling
 pub mod Evaluating
 pub mod TellingShelves
 pub mod Tabulating
+pub mod Replaying

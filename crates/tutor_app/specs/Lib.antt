@@ -10,3 +10,5 @@ pub mod World
 pub mod WorldLaws
 pub mod Table
 pub mod TableLaws
+pub mod Play
+pub mod PlayLaws

@@ -1,7 +1,9 @@
-//! The program: `check` judges a proof, `table` prints a truth table, and `world` evaluates sentences in a world.
+//! The program: `check` judges a proof, `table` prints a truth table, `world` evaluates sentences in a world, and `play` plays
+//! the game about a sentence.
 #![tactic(auto)]
 
 mod check;
+mod play;
 mod report;
 mod shelved;
 mod table;

@@ -81,7 +81,7 @@ pub(crate) fn letters_reply(alloc: Global, count: u32) -> Result<Reply, AllocErr
     })
 }
 
-fn unreadable(alloc: Global, line: u64, fault: &Bytes) -> Result<Reply, AllocError>
+pub(crate) fn unreadable(alloc: Global, line: u64, fault: &Bytes) -> Result<Reply, AllocError>
     ensures reply { IfOk result (λ reply. reply ≡ report.unreadable_reply line fault.now) }
 {
     let text = reported(alloc, b"unreadable line ", line, fault)?;
@@ -195,7 +195,7 @@ fn refusal_text(alloc: Global, refusal: ReadFault) -> Result<Bytes, AllocError>
     }
 }
 
-fn with_number(alloc: Global, name: &[u8], number: u32) -> Result<Bytes, AllocError>
+pub(crate) fn with_number(alloc: Global, name: &[u8], number: u32) -> Result<Bytes, AllocError>
     ensures text { IfOk result (λ text. text ≡ report.with_number name.now number) }
 {
     let mut text = Bytes::from_slice(alloc, name)?;

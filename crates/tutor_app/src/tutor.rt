@@ -7,9 +7,11 @@ ghost use Rattle.tutor_app.specs.Run.{ToolRuns, ToolRunsOn};
 ghost use Rattle.tutor_app.specs.ShelvedRun.{ShelvedRuns, ShelvedRunsOn, Says};
 ghost use Rattle.tutor_app.specs.Words.{AskForNothing, is_name};
 ghost use Rattle.tutor_app.specs.Table.{table_answers, table_words};
+ghost use Rattle.tutor_app.specs.Play.{play_answers, play_words};
 ghost use Rattle.tutor_app.specs.World.{world_words, text_answers, IsWorldText};
 
 use crate::check::Check;
+use crate::play::PlayGame;
 use crate::shelved::run_world;
 use crate::table::Tabulate;
 use crate::tool::{Reply, Tool};
@@ -46,6 +48,11 @@ pub fn tutor<S: Source, W: Sink, F: Shelf>(
     ensures table_told { words.now ≡ table_words → (bytes : List ℕ) → S.left input.old ≡ Some bytes →
         ToolRunsOn table_answers bytes (S.left input.new) (W.taken output.old) (W.taken output.new) result.code }
 
+    ensures play { words.now ≡ play_words →
+        ToolRuns play_answers (S.left input.old) (S.left input.new) (W.taken output.old) (W.taken output.new) result.code }
+    ensures play_told { words.now ≡ play_words → (bytes : List ℕ) → S.left input.old ≡ Some bytes →
+        ToolRunsOn play_answers bytes (S.left input.new) (W.taken output.old) (W.taken output.new) result.code }
+
     ensures world { (name : List ℕ) → words.now ≡ world_words name → IsTrue (is_name name) →
         ShelvedRuns IsWorldText text_answers (F.texts shelf.old) name (input.new ≡ input.old) (S.left input.old) (S.left input.new) (W.taken output.old) (W.taken output.new) result.code }
     ensures world_told { (name : List ℕ) → words.now ≡ world_words name → IsTrue (is_name name) →
@@ -73,6 +80,7 @@ pub fn tutor<S: Source, W: Sink, F: Shelf>(
     let code = match command_of(words) {
         Command::Check => run_check(alloc, input, output),
         Command::Table => run_tool(alloc, &Tabulate, input, output),
+        Command::Play => run_tool(alloc, &PlayGame, input, output),
         Command::World(name) => run_world(alloc, name, input, output, shelf),
         Command::Refused => 2,
     };
@@ -131,6 +139,8 @@ pub(crate) fn run_tool<T: Tool, S: Source, W: Sink>(
 
 #[cfg(test)]
 mod cuts;
+#[cfg(test)]
+mod play_tests;
 #[cfg(test)]
 mod table_tests;
 #[cfg(test)]

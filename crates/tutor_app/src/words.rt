@@ -17,6 +17,8 @@ pub enum Command<'a> {
     Check,
     /// To make the truth table of the sentences that the input lists.
     Table,
+    /// To play the game that the input describes.
+    Play,
     /// To evaluate the sentences that the input lists in the world of this name.
     World(&'a Bytes),
     /// Nothing that the program knows.
@@ -30,6 +32,7 @@ pub fn command_of(words: &Words) -> Command<'_>
     match words.as_slice() {
         [word] if word.is(b"check") => Command::Check,
         [word] if word.is(b"table") => Command::Table,
+        [word] if word.is(b"play") => Command::Play,
         [word, name] if word.is(b"world") && is_name(name) => Command::World(name),
         _ => Command::Refused,
     }

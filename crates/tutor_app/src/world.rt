@@ -57,7 +57,7 @@ fn add_answer(text: &mut Bytes, answer: Result<bool, TruthFault>) -> Result<(), 
 }
 
 /// The word for the answer on a sentence.
-fn answer_word(answer: Result<bool, TruthFault>) -> &'static [u8]
+pub(crate) fn answer_word(answer: Result<bool, TruthFault>) -> &'static [u8]
     ensures word { result.now ≡ spec.answer_word answer }
 {
     match answer {

@@ -1,5 +1,6 @@
 use Rattle.std.proofs.Common.{◌≡◌, subst}
 use Rattle.tutor_app.specs.Check.{check_answers}
+use Rattle.tutor_app.specs.Play.{play_answers}
 use Rattle.tutor_app.specs.Table.{table_answers}
 use Rattle.tutor_app.specs.ShelvedRun.{ShelvedRuns}
 use Rattle.tutor_app.specs.World.{IsWorldText, text_answers}
@@ -25,3 +26,7 @@ returns-in-World-clause-world_told g c = λ name e p texts h bytes k.
 pub returns-in-Table-clause-table_told : goal.returns-in-Table-clause-table_told
 returns-in-Table-clause-table_told g c = λ _ bytes e.
     told_runs table_answers bytes (g.S.Source.left c.args.input.now) (g.S.Source.left c.run_tool-code.new.input) (g.W.Sink.taken c.args.output.now) (g.W.Sink.taken c.run_tool-code.new.output) c.run_tool-code.result e c.run_tool-code.ensures.runs
+
+pub returns-in-Play-clause-play_told : goal.returns-in-Play-clause-play_told
+returns-in-Play-clause-play_told g c = λ _ bytes e.
+    told_runs play_answers bytes (g.S.Source.left c.args.input.now) (g.S.Source.left c.run_tool-code-in-Play.new.input) (g.W.Sink.taken c.args.output.now) (g.W.Sink.taken c.run_tool-code-in-Play.new.output) c.run_tool-code-in-Play.result e c.run_tool-code-in-Play.ensures.runs

@@ -1,0 +1,11 @@
+pub mod Lists
+pub mod Values
+pub mod Weights
+pub mod Winning
+pub mod Turning
+pub mod Playing
+pub mod Bounds
+pub mod Choosing
+pub mod Running
+pub mod Repeating
+pub mod OneReplay

@@ -1,0 +1,10 @@
+pub mod Positions
+pub mod Weight
+pub mod Width
+pub mod Wins
+pub mod Turns
+pub mod Plays
+pub mod Games
+pub mod Refusals
+pub mod Replays
+pub mod ReplayLaws
