@@ -13,3 +13,4 @@ mod Staging
 mod Asking
 mod WrongRows
 mod MissingRows
+mod PrintingTables

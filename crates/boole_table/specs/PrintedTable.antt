@@ -6,6 +6,7 @@ use Rattle.fol_text.specs.Printed.{printed, separated}
 use Rattle.fitch_file.specs.PrintedProof.{HasReadableText}
 use Rattle.boole_table.specs.declared.table.TableRow.{TableRow}
 use Rattle.boole_table.specs.declared.table.Table.{Table}
+use Rattle.boole_table.specs.declared.table.TableText.{TableText}
 use Rattle.boole_table.specs.Asked.{Differ}
 use Rattle.boole_table.specs.ListLines.{letters_word, sentences_word}
 use Rattle.boole_table.specs.RowLines.{value_byte}
@@ -41,3 +42,7 @@ pub record IsReadBack (t : Table) : Type 0 where
   pub rows : AllByRecursion (HasValues (length t.letters) (length t.sentences)) t.rows
   pub letters : AllByRecursion HasReadableText t.letters
   pub sentences : AllByRecursion HasReadableText t.sentences
+
+-- The table as a text that answers no question.
+abbrev pub without_answers : Table → TableText
+without_answers t = record { table = t; answers = [] }

@@ -1,11 +1,10 @@
 ghost use Rattle.std.specs.Prelude.{◌≡◌, ◌++◌, ◌∷◌, [], map, IfOk, OnOk, if◌then◌else◌};
 ghost use Rattle.std.specs.List.{flat_map};
 ghost use Rattle.fol_text.specs.Printed.{printed, separated};
-ghost use Rattle.boole_table.specs.declared.table.TableText.{TableText as Read};
 ghost use Rattle.boole_table.specs.Asked.{any_table};
 ghost use Rattle.boole_table.specs.RowLines.{value_byte};
 ghost use Rattle.boole_table.specs.TableLines.{SpellsTable};
-ghost use Rattle.boole_table.specs.PrintedTable.{list_text, row_text, rows_text, printed_table, IsReadBack};
+ghost use Rattle.boole_table.specs.PrintedTable.{list_text, row_text, rows_text, printed_table, IsReadBack, without_answers};
 
 use crate::table::{Table, TableRow};
 use fol_core::Sent;
@@ -20,6 +19,11 @@ type Bytes = Listed<u8>;
 /// line feed. Sentences have ` ; ` between them, and values one space.
 pub fn print_table(alloc: Global, t: &Table) -> Result<Listed<u8>, AllocError>
     ensures text { IfOk result (λ text. text ≡ printed_table t.now) }
+
+    // It is read as the same table, without answers, where there is a sentence, the letters differ, each row has a value for
+    // each letter and each sentence, and each letter and each sentence is well formed, closed and within the limits, and has
+    // at most 4,000 bytes as text.
+    ensures read_back { IfOk result (λ text. IsReadBack t.now → SpellsTable any_table text (without_answers t.now)) }
 {
     let mut text = Listed::new(alloc);
     text.extend(b"table 1\n")?;

@@ -10,8 +10,8 @@ mod Lining
 mod Forming
 mod Going
 mod Heading
-mod PrintingInk
-mod PrintingSentences
+pub mod PrintingInk
+pub mod PrintingSentences
 mod PrintingParts
 mod PrintingSteps
 mod PrintingLines
