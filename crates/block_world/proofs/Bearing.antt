@@ -1,10 +1,9 @@
 -- The block that has a name.
-use Rattle.std.proofs.Common.{◌≡◌, ℕ, ◌+◌, ◌<◌, Bool, true, false, List, [], ◌∷◌, arith, refl, ap, ◌∙◌}
-use Rattle.std.specs.Prelude.{◌==◌, if◌then◌else◌}
+use Rattle.std.proofs.Common.{◌≡◌, ℕ, ◌+◌, ◌<◌, false, List, [], ◌∷◌, arith, refl}
 use Rattle.std.proofs.lemmas.Bool.{ne_eqb}
 use Rattle.block_world.specs.declared.block.Block.{Block}
 use Rattle.block_world.specs.declared.block.Names.{Names}
-use Rattle.block_world.specs.Geometry.{bears, letters}
+use Rattle.block_world.specs.Geometry.{bears}
 use Rattle.block_world.specs.Worlds.{bearer_from, bearer}
 
 no_name : (n : Names) (l : ℕ) → (l ≡ 97 → ⊥) → (l ≡ 98 → ⊥) → (l ≡ 99 → ⊥) → (l ≡ 100 → ⊥) → (l ≡ 101 → ⊥) → (l ≡ 102 → ⊥) → bears n l ≡ false

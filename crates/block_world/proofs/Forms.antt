@@ -1,6 +1,6 @@
 -- What the definitions say of each form of sentence: one equation a form.
-use Rattle.std.proofs.Common.{◌≡◌, ℕ, List, Bool, false, not, length, map, ◌∙◌, rules}
-use Rattle.std.specs.Prelude.{◌&&◌, ◌||◌, ◌==◌}
+use Rattle.std.proofs.Common.{◌≡◌, List, false, not, map, ◌∙◌, rules}
+use Rattle.std.specs.Prelude.{◌||◌, ◌==◌}
 use Rattle.std.specs.List.{list_any, list_all}
 use Rattle.fol_core.specs.declared.sent.Sent.{Sent, the_lemmas}
 use Rattle.fol_core.specs.declared.sent.Sent.TheVariants as s
@@ -13,7 +13,7 @@ use Rattle.block_world.specs.Worlds.{numbers}
 use Rattle.block_world.specs.Assignments.{Assignment, number_at, put, block_of}
 use Rattle.block_world.specs.Truth.{val, val_under, are_alike}
 use Rattle.block_world.specs.Answers.{in_blocks, all_borne}
-use Rattle.block_world.proofs.Parts.{any_itself, all_itself, all_applied, any_applied}
+use Rattle.block_world.proofs.Parts.{all_itself, all_applied, any_applied}
 
 pub val_atom : (w : List Block) (a : Assignment) (p : Word) (ts : List Term) → val w a (s.Atom p ts) ≡ is_true_of (predicate_of p) (map (block_of w a) ts)
 val_atom w a p ts = search (rules, the_lemmas)

@@ -1,6 +1,9 @@
 pub mod Bearing
+pub mod Ending
 pub mod Forms
+pub mod Extending
 pub mod Letters
+pub mod Marking
 pub mod Naming
 pub mod Numbers
 pub mod Placing
@@ -11,5 +14,8 @@ pub mod LinesRead
 pub mod Putting
 pub mod Saturating
 pub mod Saying
+pub mod Scaling
+pub mod Sets
 pub mod Squaring
+pub mod Swapping
 pub mod Wording

@@ -12,7 +12,7 @@ use Rattle.block_world.specs.declared.reading.WorldFault.{WorldFault}
 use Rattle.block_world.specs.declared.reading.WorldFault.TheVariants.{Header}
 use Rattle.block_world.specs.Lines.{is_blank_line, is_header, behind_header, words}
 use Rattle.block_world.specs.BlockLines.{Said, said_in, said_by, block_said, blocks_of}
-use Rattle.block_world.specs.WorldText.{fault_said, faulty_or, first_fault, fault_from, world_fault}
+use Rattle.block_world.specs.WorldText.{fault_said, faulty_or, first_fault, fault_from}
 use Rattle.block_world.specs.Squares.{Holds}
 
 -- The reader is at the rest: the blocks of the lines before it stand on the board, and none of these lines is faulty.

@@ -1,8 +1,7 @@
 -- The names of a block and the word that says them.
-use Rattle.std.proofs.Common.{◌≡◌, ℕ, ◌<◌, ◌≤◌, Bool, true, false, not, List, [], ◌∷◌, ◌++◌, arith, refl, sym, ap, subst, ◌∙◌, inl, inr, ◌⊎◌}
-use Rattle.std.specs.Prelude.{◌==◌, ◌&&◌, ◌||◌, nat_le}
-use Rattle.std.proofs.lemmas.Bool.{or_parts, or_from, or_left, or_right, and_parts, and_from, and_left, and_right, cases_eq, ne_eqb, lt-leb, cases_lt}
-use Rattle.block_world.specs.declared.block.Names.{Names}
+use Rattle.std.proofs.Common.{◌≡◌, ℕ, Bool, true, false, List, arith, refl, sym, subst, ◌∙◌, inl, inr}
+use Rattle.std.specs.Prelude.{◌&&◌, ◌||◌, nat_le}
+use Rattle.std.proofs.lemmas.Bool.{and_parts, and_left, and_right, cases_eq, ne_eqb, lt-leb, cases_lt}
 use Rattle.block_world.specs.Geometry.{bears}
 use Rattle.block_world.specs.BlockLines.{may_name, stands_in, names_in}
 

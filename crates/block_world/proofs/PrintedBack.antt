@@ -1,20 +1,20 @@
 -- A printed world has no faulty line, and its blocks in the order of their squares are the world.
-use Rattle.std.proofs.Common.{◌≡◌, ℕ, zero, suc, ◌+◌, ◌-◌, ◌<◌, ◌≤◌, Bool, true, false, not, List, [], ◌∷◌, ◌++◌, length, map, take, get_or, arith, refl, sym, ap, ap₂, subst, ◌∙◌, inl, inr, ◌⊎◌, append-nil}
-use Rattle.std.specs.Prelude.{◌==◌, ◌&&◌, ◌||◌, nat_lt, nat_le, Option, Some, None, if◌then◌else◌, codes}
+use Rattle.std.proofs.Common.{◌≡◌, ℕ, zero, suc, ◌+◌, ◌-◌, ◌<◌, ◌≤◌, Bool, true, false, List, [], ◌∷◌, ◌++◌, length, map, get_or, arith, refl, sym, ap, ap₂, subst, ◌∙◌, inl, inr, ◌⊎◌}
+use Rattle.std.specs.Prelude.{◌==◌, ◌&&◌, ◌||◌, nat_lt, nat_le, Some, None, codes}
 use Rattle.std.specs.Fmt.{decimal}
-use Rattle.std.specs.List.{list_all, list_any, find, filter_map, cons_option, range_with_len, slice_index}
+use Rattle.std.specs.List.{list_all, list_any, cons_option}
 use Rattle.std.specs.Str.Lines.{lines, strip_carriage_return}
-use Rattle.std.proofs.lemmas.Bool.{or_from, or_left, or_right, or_parts, and_parts, and_from, and_left, cases_eq, cases_lt, cases_Bool, ne_eqb, eq-eqb, eqb-true, ltb-true, lt-ltb, leb-true, both_ways, false_from_ne_true, not-true}
+use Rattle.std.proofs.lemmas.Bool.{or_from, or_left, or_right, or_parts, and_parts, and_from, and_left, cases_eq, cases_lt, cases_Bool, ne_eqb, eq-eqb, ltb-true, lt-ltb, leb-true, false_from_ne_true, not-true}
 use Rattle.std.proofs.lemmas.List.{append_assoc}
 use Rattle.std.proofs.lemmas.List.Folds.{list_all-append}
-use Rattle.texts.specs.Cuts.{Lacks, IsCut}
+use Rattle.texts.specs.Cuts.{Lacks}
 use Rattle.texts.proofs.Splitting.{lines-cut}
 use Rattle.block_world.specs.declared.block.Block.{Block}
-use Rattle.block_world.specs.Geometry.{bears, square, square_at, is_place, is_on_board}
+use Rattle.block_world.specs.Geometry.{bears, square, is_place, is_on_board}
 use Rattle.block_world.specs.Worlds.{IsOneOf, AreSingle, in_order, IsWorld}
-use Rattle.block_world.specs.Lines.{is_blank_line, is_header, behind_header}
-use Rattle.block_world.specs.BlockLines.{may_name, stands_in, names_in, said_in, block_said, blocks_of}
-use Rattle.block_world.specs.WorldText.{is_name_taken, is_square_taken, repeats_name, fault_said, faulty_or, first_fault, fault_from, world_fault, by_squares, world_of}
+use Rattle.block_world.specs.Lines.{behind_header}
+use Rattle.block_world.specs.BlockLines.{may_name, stands_in, said_in, blocks_of}
+use Rattle.block_world.specs.WorldText.{is_name_taken, is_square_taken, repeats_name, fault_said, first_fault, fault_from, world_fault, by_squares, world_of}
 use Rattle.block_world.specs.Printed.{names_text, shape_text, size_text, block_text, blocks_text, world_text}
 use Rattle.block_world.proofs.Naming.{bears_in}
 use Rattle.block_world.proofs.Squaring.{on, between, among_pushed, all_of}

@@ -1,29 +1,23 @@
 -- What is printed of a world is read as the same world.
-use Rattle.std.proofs.Common.{◌≡◌, ℕ, zero, suc, ◌+◌, ◌<◌, ◌≤◌, Bool, true, false, not, List, [], ◌∷◌, ◌++◌, length, map, take, get_or, arith, refl, sym, ap, ap₂, subst, ◌∙◌, inl, inr, ◌⊎◌, append-nil}
-use Rattle.std.specs.Prelude.{◌==◌, ◌&&◌, ◌||◌, nat_lt, nat_le, Option, Some, None, if◌then◌else◌}
-use Rattle.std.specs.List.{list_all, list_any, find, filter_map, cons_option, range_with_len, slice_index}
+use Rattle.std.proofs.Common.{◌≡◌, ℕ, zero, suc, Bool, true, false, not, List, [], ◌∷◌, ◌++◌, map, arith, refl, sym, ap, subst, ◌∙◌, append-nil}
+use Rattle.std.specs.Prelude.{◌==◌, ◌&&◌, nat_lt, nat_le, Option, Some, None, if◌then◌else◌}
+use Rattle.std.specs.List.{list_all, cons_option}
 use Rattle.std.specs.Fmt.{decimal}
 use Rattle.std.proofs.lemmas.Fmt.{decimal_digit}
-use Rattle.std.specs.Str.Lines.{lines, strip_carriage_return}
-use Rattle.std.proofs.lemmas.Bool.{or_from, and_parts, and_from, cases_eq, ne_eqb, eq-eqb, ltb-true, leb-true, lt-ltb, le-leb, both_ways, false_from_ne_true, not-true}
+use Rattle.std.proofs.lemmas.Bool.{or_from, and_parts, and_from, ne_eqb, ltb-true, leb-true, not-true}
 use Rattle.std.proofs.lemmas.List.{append_assoc}
-use Rattle.std.proofs.lemmas.List.Folds.{list_all-append}
 use Rattle.texts.specs.Blanks.{is_blank}
-use Rattle.texts.specs.Cuts.{Lacks, IsCut}
-use Rattle.texts.proofs.Splitting.{lines-cut}
 use Rattle.block_world.specs.declared.block.Block.{Block}
 use Rattle.block_world.specs.declared.block.Names.{Names}
 use Rattle.block_world.specs.declared.block.Shape.{Shape}
 use Rattle.block_world.specs.declared.block.Shape.TheVariants.{Tet, Cube, Dodec}
 use Rattle.block_world.specs.declared.block.Size.{Size}
 use Rattle.block_world.specs.declared.block.Size.TheVariants.{Small, Medium, Large}
-use Rattle.block_world.specs.Geometry.{bears, square, is_place, is_on_board}
-use Rattle.block_world.specs.Worlds.{IsOneOf, AreSingle, in_order, IsWorld}
+use Rattle.block_world.specs.Geometry.{is_place, is_on_board}
 use Rattle.block_world.specs.Lines.{is_blank_line, words, begins_blank}
-use Rattle.block_world.specs.BlockLines.{Said, may_name, says_names, stands_in, names_in, shape_of, size_of, number_of, said_by, said_in, block_said, blocks_of}
-use Rattle.block_world.specs.WorldText.{is_name_taken, is_square_taken, repeats_name, fault_said, faulty_or, first_fault, world_fault, by_squares, world_of}
-use Rattle.block_world.specs.Printed.{names_text, shape_text, size_text, block_text, blocks_text, world_text}
-use Rattle.block_world.proofs.Squaring.{on, between, among_pushed}
+use Rattle.block_world.specs.BlockLines.{Said, says_names, stands_in, names_in, shape_of, size_of, number_of, said_by, said_in, block_said, blocks_of}
+use Rattle.block_world.specs.WorldText.{repeats_name}
+use Rattle.block_world.specs.Printed.{names_text, shape_text, size_text, block_text}
 use Rattle.block_world.proofs.Wording.{no_blank, words_split}
 
 -- printed words

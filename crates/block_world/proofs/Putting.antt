@@ -1,23 +1,21 @@
 -- A block is put on the board, or its line is faulty.
-use Rattle.std.proofs.Common.{◌≡◌, ℕ, ◌+◌, ◌-◌, ◌*◌, ◌<◌, ◌≤◌, Bool, true, false, not, List, [], ◌∷◌, ◌++◌, length, map, take, take_all, get_or, set, arith, refl, sym, ap, ap₂, subst, ◌∙◌}
-use Rattle.std.specs.Prelude.{◌==◌, ◌&&◌, ◌||◌, nat_le, Option, Some, None, Result, Ok, Err, OnOk, if◌then◌else◌}
+use Rattle.std.proofs.Common.{◌≡◌, ℕ, ◌+◌, ◌<◌, ◌≤◌, Bool, true, false, List, [], ◌∷◌, ◌++◌, length, take, take_all, get_or, set, arith, refl, sym, ap, ap₂, subst, ◌∙◌}
+use Rattle.std.specs.Prelude.{◌==◌, ◌&&◌, ◌||◌, nat_le, Option, Some, None, Result, Ok, Err, OnOk}
 use Rattle.std.specs.Option.{is_some}
-use Rattle.std.specs.List.{filter_map, cons_option, range_with_len, list_all}
+use Rattle.std.specs.List.{filter_map, cons_option, range_with_len}
 use Rattle.std.proofs.lemmas.Bool.{and_parts, and_from, leb-true}
 use Rattle.std.proofs.lemmas.List.{take_more}
 use Rattle.std.proofs.lemmas.List.FromFn.{length-map-range_with_len}
 use Rattle.block_world.specs.declared.block.Block.{Block}
-use Rattle.block_world.specs.declared.block.Names.{Names}
 use Rattle.block_world.specs.declared.squares.Squares.{Squares}
-use Rattle.block_world.specs.declared.reading.WorldFault.{WorldFault}
-use Rattle.block_world.specs.declared.reading.WorldFault.TheVariants.{Form, SquareTaken, NameTaken, OffBoard}
-use Rattle.block_world.specs.Geometry.{bears, square, square_at, is_place, is_on_board}
+use Rattle.block_world.specs.declared.reading.WorldFault.TheVariants.{SquareTaken, NameTaken, OffBoard}
+use Rattle.block_world.specs.Geometry.{bears, square, square_at, is_place}
 use Rattle.block_world.specs.Worlds.{IsWorld}
-use Rattle.block_world.specs.BlockLines.{Said, names_in, stands_in, may_name, said_in, block_by, block_said, blocks_of}
+use Rattle.block_world.specs.BlockLines.{Said, stands_in, may_name, said_in, block_by, block_said, blocks_of}
 use Rattle.block_world.specs.WorldText.{is_name_taken, is_square_taken, repeats_name, fault_said, by_squares}
 use Rattle.block_world.specs.Squares.{Holds, HoldsSome}
 use Rattle.block_world.proofs.Naming.{bears_stands}
-use Rattle.block_world.proofs.Squaring.{on, squares_of, found, on_square, put_on, not_given, single_pushed, taken_pushed, board_pushed, squares_world, few_squares, through_map}
+use Rattle.block_world.proofs.Squaring.{on, found, on_square, put_on, not_given, single_pushed, taken_pushed, board_pushed, squares_world, few_squares, through_map}
 
 pub place_parts : (n : ℕ) → is_place n ≡ true → (1 ≤ n) × (n ≤ 8)
 place_parts n h =

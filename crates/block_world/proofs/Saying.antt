@@ -1,10 +1,10 @@
--- What a predicate says of more than three places: nothing.
-use Rattle.std.proofs.Common.{◌≡◌, ℕ, ◌≤◌, Bool, false, List, [], ◌∷◌, length, map, arith, refl}
+-- What a predicate says of more than three places: nothing; and what its converse says.
+use Rattle.std.proofs.Common.{◌≡◌, ◌≤◌, false, List, [], ◌∷◌, length, map, arith, refl}
 use Rattle.std.specs.Prelude.{Option, Some, None}
 use Rattle.fol_core.specs.declared.sent.Term.{Term}
 use Rattle.block_world.specs.declared.block.Block.{Block}
 use Rattle.block_world.specs.declared.predicate.Predicate.{Predicate}
-use Rattle.block_world.specs.Predicates.{says, is_true_of}
+use Rattle.block_world.specs.Predicates.{says, says_of_two, is_true_of}
 
 four : (q : Predicate) (o p r s : Option Block) (bs : List (Option Block)) → says q (o ∷ p ∷ r ∷ s ∷ bs) ≡ false
 four q None p r s bs = refl
@@ -19,3 +19,7 @@ many_places (Some q) f (t ∷ []) h = absurd (omega (arith, h))
 many_places (Some q) f (t ∷ u ∷ []) h = absurd (omega (arith, h))
 many_places (Some q) f (t ∷ u ∷ v ∷ []) h = absurd (omega (arith, h))
 many_places (Some q) f (t ∷ u ∷ v ∷ x ∷ ts) h = four q (f t) (f u) (f v) (f x) (map f ts)
+
+pub says_converse : (p q : Predicate) → ((b c : Block) → says_of_two q b c ≡ says_of_two p c b) → (b : Block) (o : Option Block) → says q (Some b ∷ o ∷ []) ≡ says p (o ∷ Some b ∷ [])
+says_converse p q h b None = refl
+says_converse p q h b (Some c) = h b c

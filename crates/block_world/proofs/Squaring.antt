@@ -1,17 +1,16 @@
 -- The board while it is read: what stands on its squares, and the blocks in the order of the squares.
-use Rattle.std.proofs.Common.{◌≡◌, ℕ, zero, suc, ◌+◌, ◌<◌, ◌≤◌, Bool, true, false, not, List, [], ◌∷◌, ◌++◌, length, map, get_or, set, arith, refl, sym, ap, subst, ◌∙◌, inl, inr, ◌⊎◌, length-set}
+use Rattle.std.proofs.Common.{◌≡◌, ℕ, zero, suc, ◌+◌, ◌<◌, ◌≤◌, Bool, true, false, List, [], ◌∷◌, ◌++◌, length, map, get_or, set, arith, refl, sym, ap, subst, ◌∙◌, inl, inr, ◌⊎◌, length-set}
 use Rattle.std.specs.Prelude.{◌==◌, ◌&&◌, ◌||◌, nat_lt, Option, Some, None, if◌then◌else◌}
 use Rattle.std.specs.Option.{is_some}
 use Rattle.std.specs.List.{list_all, list_any, find, filter_map, cons_option, range_with_len}
-use Rattle.std.proofs.lemmas.Bool.{or_cases, or_parts, or_left, or_right, and_parts, and_from, cases_eq, cases_Bool, eqb-true, ne_eqb, eq-eqb, lt-ltb, both_ways, cases_lt}
+use Rattle.std.proofs.lemmas.Bool.{or_cases, or_parts, or_left, or_right, and_parts, and_from, cases_eq, eqb-true, ne_eqb, eq-eqb, lt-ltb, both_ways}
 use Rattle.std.proofs.lemmas.List.{get_or-set_same, get_or-set_other}
 use Rattle.std.proofs.lemmas.List.FromFn.{length-map-range_with_len, get_or-map-range_with_len, fill_by_all}
-use Rattle.std.proofs.lemmas.List.Folds.{list_any-append, list_all-append}
+use Rattle.std.proofs.lemmas.List.Folds.{list_all-append}
 use Rattle.block_world.specs.declared.block.Block.{Block}
-use Rattle.block_world.specs.declared.block.Names.{Names}
 use Rattle.block_world.specs.Geometry.{bears, square, is_on_board}
 use Rattle.block_world.specs.Worlds.{IsOneOf, AreSingle, in_order, IsWorld}
-use Rattle.block_world.specs.BlockLines.{may_name, stands_in, names_in}
+use Rattle.block_world.specs.BlockLines.{may_name, stands_in}
 use Rattle.block_world.specs.WorldText.{is_name_taken, is_square_taken, repeats_name, by_squares}
 
 -- the block that stands on the square, if any

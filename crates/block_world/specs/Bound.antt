@@ -1,5 +1,5 @@
 -- What stands for variables while the value of a sentence is found: the quantifiers around a place, and the given places.
-use Rattle.std.specs.Prelude.{List, [], ◌∷◌}
+use Rattle.std.specs.Prelude.{List}
 use Rattle.block_world.specs.declared.block.Block.{Block}
 use Rattle.block_world.specs.declared.answer.Place.{Place}
 use Rattle.block_world.specs.declared.valuation.Bound.{Bound, fold-Bound}

@@ -1,11 +1,15 @@
 pub mod Geometry
+pub mod BlockSets
 pub mod Predicates
+pub mod Endings
 pub mod Worlds
+pub mod Scales
 pub mod Invariants
 pub mod Assignments
 pub mod Places
 pub mod Bound
 pub mod Truth
+pub mod Claims
 pub mod Work
 pub mod Answers
 pub mod Lines

@@ -1,5 +1,5 @@
 -- World texts: the first fault, and the world.
-use Rattle.std.specs.Prelude.{ℕ, ◌+◌, Bool, true, false, not, ◌&&◌, ◌||◌, ◌==◌, List, [], ◌∷◌, ◌++◌, Option, Some, None, if◌then◌else◌}
+use Rattle.std.specs.Prelude.{ℕ, ◌+◌, Bool, false, not, ◌&&◌, ◌||◌, ◌==◌, List, [], ◌∷◌, ◌++◌, Option, Some, None, if◌then◌else◌}
 use Rattle.std.specs.List.{list_any, find, filter_map, range_with_len}
 use Rattle.std.specs.Str.Lines.{lines}
 use Rattle.fol_core.specs.Word.{Word}
@@ -8,7 +8,7 @@ use Rattle.block_world.specs.declared.reading.WorldFault.{WorldFault}
 use Rattle.block_world.specs.declared.reading.WorldFault.TheVariants.{Header, Form, SquareTaken, NameTaken, OffBoard}
 use Rattle.block_world.specs.Geometry.{bears, square, square_at, is_place}
 use Rattle.block_world.specs.Lines.{is_blank_line, is_header, behind_header}
-use Rattle.block_world.specs.BlockLines.{Said, may_name, stands_in, said_in, block_said, blocks_of}
+use Rattle.block_world.specs.BlockLines.{Said, may_name, stands_in, said_in, blocks_of}
 
 -- Some block stands on the square of that number.
 abbrev pub is_square_taken : List Block → ℕ → Bool

@@ -3,8 +3,11 @@ ghost use Rattle.block_world.specs.Geometry as geometry;
 ghost use Rattle.block_world.specs.Worlds as worlds;
 ghost use Rattle.block_world.specs.Worlds.{IsWorld};
 ghost use Rattle.block_world.specs.Answers.{is_borne};
+ghost use Rattle.block_world.specs.Scales.{measure_of, AreBelow};
 
 use crate::block::Block;
+use crate::block_set::BlockSet;
+use crate::scales::{Measure, Scales};
 use std::marker::Model;
 
 /// A world: blocks on a board, at most one on a square, in the order of their squares, row by row from the front and in a
@@ -14,6 +17,7 @@ pub struct World {
     blocks: Vec<Block>,
     /// The number of the block that has each name from `a` to `f`; 1 where none has it.
     bearers: [u8; 6],
+    scales: Scales,
 }
 
 impl Model for World {
@@ -25,7 +29,7 @@ impl Model for World {
 
     ghost view = { λ w. w.blocks.items };
 
-    ghost invariant = { λ w. IsKept w.blocks.items w.bearers };
+    ghost invariant = { λ w. IsKept w.blocks.items w.bearers w.scales };
 }
 
 /// The number of blocks in the world. It takes no memory.
@@ -51,13 +55,19 @@ impl World {
             bearer_in(blocks.as_slice(), b'e'),
             bearer_in(blocks.as_slice(), b'f'),
         ];
-        World { blocks, bearers }
+        let scales = Scales::of(blocks.as_slice());
+        World {
+            blocks,
+            bearers,
+            scales,
+        }
     }
 
     /// The blocks in the order of their squares.
     pub(crate) fn blocks(&self) -> &[Block]
         ensures value { result.now ≡ self.now }
         ensures world { IsWorld self.now }
+        ensures few { length self.now ≤ 64 }
     {
         self.blocks.as_slice()
     }
@@ -69,6 +79,13 @@ impl World {
         self.blocks
             .get((number as usize).saturating_sub(1))
             .copied()
+    }
+
+    /// For each number the blocks that measure less.
+    pub(crate) fn scale(&self, measure: Measure) -> &[BlockSet]
+        ensures value { AreBelow self.now (measure_of measure) 0 result.now }
+    {
+        self.scales.scale(measure)
     }
 
     /// The number of the block that has the name; 1 where none has it.

@@ -2,15 +2,22 @@
 #![tactic(auto)]
 
 mod answer;
+mod betweenness;
 mod block;
+mod block_set;
 mod board;
+mod extension;
 mod line;
 mod predicate;
 mod print;
 mod reading;
+mod relations;
+mod scales;
 mod squares;
 #[cfg(test)]
 mod tests;
+#[cfg(test)]
+mod tests_of_sets;
 #[cfg(test)]
 mod tests_of_texts;
 mod units;

@@ -1,7 +1,9 @@
 ghost use Rattle.std.specs.Prelude.{◌≡◌};
-ghost use Rattle.std.specs.List.{find};
+ghost use Rattle.std.specs.List.{find, filter};
 ghost use Rattle.std.specs.Str.{bytes_eq};
+ghost use Rattle.block_world.specs.declared.block.Block.{Block as Standing};
 ghost use Rattle.block_world.specs.Predicates as spec;
+ghost use Rattle.block_world.specs.Endings.{ends_in};
 ghost use Rattle.block_world.specs.Geometry as geometry;
 
 use crate::block::Block;
@@ -29,33 +31,44 @@ pub enum Predicate {
     Between,
 }
 
-const PREDICATES: [Predicate; 18] = [
-    Predicate::Tet,
-    Predicate::Cube,
-    Predicate::Dodec,
-    Predicate::Small,
-    Predicate::Medium,
-    Predicate::Large,
-    Predicate::SameSize,
-    Predicate::SameShape,
-    Predicate::SameRow,
-    Predicate::SameCol,
-    Predicate::Larger,
-    Predicate::Smaller,
-    Predicate::LeftOf,
-    Predicate::RightOf,
-    Predicate::FrontOf,
-    Predicate::BackOf,
-    Predicate::Adjoins,
-    Predicate::Between,
-];
-
 /// The predicate of the word; none where the word is none of the blocks language.
-#[tactic(auto, unfolding(crate::specs::Predicates::predicate_of))]
 pub(crate) fn predicate_of(word: &[u8]) -> Option<Predicate>
     ensures value { result ≡ spec.predicate_of word.now }
 {
-    first_of_word(&PREDICATES, word)
+    match word {
+        [.., letter] => first_of_word(ending_in(*letter), word),
+        [] => None,
+    }
+}
+
+/// The predicates whose words end in the letter.
+#[tactic(auto, using(crate::proofs::Ending::none_ends))]
+fn ending_in(letter: u8) -> &'static [Predicate]
+    ensures value { result.now ≡ filter (ends_in letter) spec.predicates }
+{
+    match letter {
+        b'c' => &[Predicate::Dodec],
+        b'e' => &[
+            Predicate::Cube,
+            Predicate::Large,
+            Predicate::SameSize,
+            Predicate::SameShape,
+        ],
+        b'f' => &[
+            Predicate::LeftOf,
+            Predicate::RightOf,
+            Predicate::FrontOf,
+            Predicate::BackOf,
+        ],
+        b'l' => &[Predicate::Small, Predicate::SameCol],
+        b'm' => &[Predicate::Medium],
+        b'n' => &[Predicate::Between],
+        b'r' => &[Predicate::Larger, Predicate::Smaller],
+        b's' => &[Predicate::Adjoins],
+        b't' => &[Predicate::Tet],
+        b'w' => &[Predicate::SameRow],
+        _ => &[],
+    }
 }
 
 /// The first of the predicates that has the word.
@@ -109,6 +122,21 @@ impl Predicate {
             | Predicate::Large => 1,
             Predicate::Between => 3,
             _ => 2,
+        }
+    }
+
+    /// The predicate that says the same of two blocks named the other way round.
+    pub(crate) fn converse(self) -> Predicate
+        ensures value { (b c : Standing) → spec.says_of_two result b c ≡ spec.says_of_two self c b }
+    {
+        match self {
+            Predicate::Larger => Predicate::Smaller,
+            Predicate::Smaller => Predicate::Larger,
+            Predicate::LeftOf => Predicate::RightOf,
+            Predicate::RightOf => Predicate::LeftOf,
+            Predicate::FrontOf => Predicate::BackOf,
+            Predicate::BackOf => Predicate::FrontOf,
+            other => other,
         }
     }
 
@@ -167,7 +195,7 @@ fn share_side(b: &Block, c: &Block) -> bool
 }
 
 /// Whether the first stands strictly between the two others, in a row, a column or a diagonal.
-fn is_between(b: &Block, c: &Block, d: &Block) -> bool
+pub(crate) fn is_between(b: &Block, c: &Block, d: &Block) -> bool
     ensures value { result ≡ geometry.is_between b.now c.now d.now }
 {
     (b.row == c.row && b.row == d.row && is_inside(b.column, c.column, d.column))
@@ -184,14 +212,14 @@ fn is_inside(k: u8, m: u8, n: u8) -> bool
 }
 
 /// Whether both stand in one diagonal that rises to the right.
-fn on_rising(b: &Block, c: &Block) -> bool
+pub(crate) fn on_rising(b: &Block, c: &Block) -> bool
     ensures value { result ≡ geometry.on_rising b.now c.now }
 {
     u16::from(b.column) + u16::from(c.row) == u16::from(c.column) + u16::from(b.row)
 }
 
 /// Whether both stand in one diagonal that falls to the right.
-fn on_falling(b: &Block, c: &Block) -> bool
+pub(crate) fn on_falling(b: &Block, c: &Block) -> bool
     ensures value { result ≡ geometry.on_falling b.now c.now }
 {
     u16::from(b.column) + u16::from(b.row) == u16::from(c.column) + u16::from(c.row)

@@ -29,7 +29,7 @@ pub(crate) fn world(alloc: Global, text: &[u8]) -> Result<World, AllocError> {
 }
 
 /// The answer on a sentence, as it is printed.
-fn answer(alloc: Global, w: &World, text: &str) -> Result<&'static str, AllocError> {
+pub(crate) fn answer(alloc: Global, w: &World, text: &str) -> Result<&'static str, AllocError> {
     let s = sentence(alloc, text.as_bytes())?;
     Ok(match truth(w, &s) {
         Ok(true) => "true",
@@ -45,7 +45,7 @@ pub(crate) const BOARD: &[u8] =
     b"world 1\na,b cube large 3 5\nc tet small 2 4\nd dodec medium 4 6\ne cube medium 3 6\nf tet small 8 1\n- cube small 6 3\n";
 
 /// Three blocks in a row, and three in a column.
-const LINES: &[u8] =
+pub(crate) const LINES: &[u8] =
     b"world 1\na cube small 1 2\nb cube small 4 2\nc cube small 8 2\nd tet small 4 5\ne tet small 4 7\nf tet large 2 7\n";
 
 #[test]

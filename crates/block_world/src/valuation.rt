@@ -12,6 +12,7 @@ ghost use Rattle.block_world.specs.Truth as truth;
 use crate::answer::Place;
 use crate::block::Block;
 use crate::board::{World, block_count};
+use crate::extension::extension;
 use crate::predicate::predicate_of;
 use fol_core::{Ident, Sent, Term, same_ident};
 
@@ -78,6 +79,17 @@ fn is_one_true(parts: &[Sent], world: &World, places: &[Place], bound: &Bound<'_
 fn is_true_of_all(x: &Ident, s: &Sent, world: &World, places: &[Place], bound: &Bound<'_>) -> bool
     ensures value { result ≡ list_all (λ k. truth.val world.now (put x.now k (standing bound.now places.now world.now)) s.now) (numbers world.now) }
 {
+    match s {
+        Sent::All(_, _) | Sent::Ex(_, _) => holds_for_each(x, s, world, places, bound),
+        _ => extension(x, s, world, places, bound).has_all_of(block_count(world)),
+    }
+}
+
+/// The same, tried block by block until one fails.
+#[cycle(value)]
+fn holds_for_each(x: &Ident, s: &Sent, world: &World, places: &[Place], bound: &Bound<'_>) -> bool
+    ensures value { result ≡ list_all (λ k. truth.val world.now (put x.now k (standing bound.now places.now world.now)) s.now) (numbers world.now) }
+{
     for before in 0..block_count(world) {
         if !value_with(x, before + 1, s, world, places, bound) {
             return false;
@@ -91,6 +103,17 @@ fn is_true_of_all(x: &Ident, s: &Sent, world: &World, places: &[Place], bound: &
 fn is_true_of_some(x: &Ident, s: &Sent, world: &World, places: &[Place], bound: &Bound<'_>) -> bool
     ensures value { result ≡ list_any (λ k. truth.val world.now (put x.now k (standing bound.now places.now world.now)) s.now) (numbers world.now) }
 {
+    match s {
+        Sent::All(_, _) | Sent::Ex(_, _) => holds_for_some(x, s, world, places, bound),
+        _ => extension(x, s, world, places, bound).has_one_of(block_count(world)),
+    }
+}
+
+/// The same, tried block by block until one serves.
+#[cycle(value)]
+fn holds_for_some(x: &Ident, s: &Sent, world: &World, places: &[Place], bound: &Bound<'_>) -> bool
+    ensures value { result ≡ list_any (λ k. truth.val world.now (put x.now k (standing bound.now places.now world.now)) s.now) (numbers world.now) }
+{
     for before in 0..block_count(world) {
         if value_with(x, before + 1, s, world, places, bound) {
             return true;
@@ -101,7 +124,7 @@ fn is_true_of_some(x: &Ident, s: &Sent, world: &World, places: &[Place], bound: 
 
 /// The value of the sentence with the variable for the block of that number.
 #[cycle(value)]
-fn value_with(
+pub(crate) fn value_with(
     x: &Ident,
     number: u32,
     s: &Sent,
@@ -152,14 +175,19 @@ fn holds(p: &Ident, terms: &[Term], world: &World, places: &[Place], bound: &Bou
 }
 
 /// The block that the term stands for.
-fn block_of(t: &Term, world: &World, places: &[Place], bound: &Bound<'_>) -> Option<Block>
+pub(crate) fn block_of(
+    t: &Term,
+    world: &World,
+    places: &[Place],
+    bound: &Bound<'_>,
+) -> Option<Block>
     ensures value { result ≡ stands_for world.now (standing bound.now places.now world.now) t.now }
 {
     world.block(number(t, world, places, bound))
 }
 
 /// The number of the block that the term stands for.
-fn number(t: &Term, world: &World, places: &[Place], bound: &Bound<'_>) -> u32
+pub(crate) fn number(t: &Term, world: &World, places: &[Place], bound: &Bound<'_>) -> u32
     ensures value { result ≡ number_at (standing bound.now places.now world.now) t.now }
 {
     match t {

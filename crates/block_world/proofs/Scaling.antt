@@ -1,0 +1,151 @@
+-- The blocks of a world by what they measure: the sets of those that measure less than a number, and what is made of these.
+use Rattle.std.proofs.Common.{◌≡◌, ℕ, zero, suc, ◌+◌, ◌-◌, ◌^◌, ◌<◌, ◌≤◌, Bool, true, false, not, List, [], ◌∷◌, length, get_or, refl, sym, ap, ap₂, ◌∙◌, subst, arith, ◌⊎◌, inl, inr}
+use Rattle.std.specs.Prelude.{◌&&◌, ◌||◌, ◌==◌, nat_lt, nat_le, Option, Some, None}
+use Rattle.std.specs.List.{slice_get, list_all}
+use Rattle.std.proofs.lemmas.Option.{slice_get_within, slice_get-get_or, same_Some}
+use Rattle.std.proofs.lemmas.Bool.{leb-true, lt-ltb, ltb-true, le-ltb, eq-eqb, ne_eqb, and_parts, cases_lt, cases_order}
+use Rattle.block_world.specs.declared.block.Block.{Block}
+use Rattle.block_world.specs.declared.block.Shape.{Shape}
+use Rattle.block_world.specs.declared.block.Shape.TheVariants as sh
+use Rattle.block_world.specs.declared.block.Size.{Size}
+use Rattle.block_world.specs.declared.block.Size.TheVariants as sz
+use Rattle.block_world.specs.declared.block_set.BlockSet.{BlockSet}
+use Rattle.block_world.specs.declared.scales.Measure.{Measure}
+use Rattle.block_world.specs.declared.scales.Measure.TheVariants as m
+use Rattle.block_world.specs.BlockSets.{has, IsExtension}
+use Rattle.block_world.specs.Geometry.{is_on_board, is_place, faces, rank, apart}
+use Rattle.block_world.specs.Scales.{measure_of, OfEach, IsSetOf, AreBelow}
+use Rattle.block_world.specs.Worlds.{block_at}
+use Rattle.block_world.proofs.Marking.{IsMarked}
+use Rattle.block_world.proofs.Sets.{full_has}
+
+-- scales
+
+at_scale : (w : List Block) (f : Block → ℕ) (n i : ℕ) (sets : List BlockSet) (set : BlockSet) → AreBelow w f n sets → slice_get sets i ≡ Some set → IsSetOf w (λ b. nat_lt (f b) (n + i)) set.bits
+at_scale w f n i [] set h e = absurd (cc)
+at_scale w f n zero (s ∷ ss) set h e = subst (λ t. IsSetOf w (λ b. nat_lt (f b) (n + 0)) t.bits) (same_Some s set e) (subst (λ j. IsSetOf w (λ b. nat_lt (f b) j) s.bits) (omega arith) h.0)
+at_scale w f n (suc i) (s ∷ ss) set h e = subst (λ j. IsSetOf w (λ b. nat_lt (f b) j) set.bits) (omega arith) (at_scale w f (n + 1) i ss set h.1 e)
+
+more_than : (m n k : ℕ) → nat_lt m n ≡ true → n ≤ k → nat_lt m k ≡ true
+more_than m n k h l = lt-ltb m k (omega (arith, ltb-true m n h, l))
+
+past_scale : (w : List Block) (f : Block → ℕ) (n i : ℕ) (sets : List BlockSet) → AreBelow w f n sets → slice_get sets i ≡ None → OfEach w (λ k b. nat_lt (f b) (n + i) ≡ true)
+past_scale w f n i [] h e = λ k b g l. more_than (f b) n (n + i) (h k b g l) (omega arith)
+past_scale w f n zero (s ∷ ss) h e = absurd (cc)
+past_scale w f n (suc i) (s ∷ ss) h e = λ k b g l. subst (λ j. nat_lt (f b) j ≡ true) (omega arith) (past_scale w f (n + 1) i ss h.1 e k b g l)
+
+-- the set at a number, which is full past the end
+pub on_scale : (w : List Block) (f : Block → ℕ) (i : ℕ) (sets : List BlockSet) (set : BlockSet) → AreBelow w f 0 sets → slice_get sets i ≡ Some set → IsSetOf w (λ b. nat_lt (f b) i) set.bits
+on_scale w f i sets set h e = subst (λ j. IsSetOf w (λ b. nat_lt (f b) j) set.bits) (omega arith) (at_scale w f 0 i sets set h e)
+
+pub off_scale : (w : List Block) (f : Block → ℕ) (i : ℕ) (sets : List BlockSet) → AreBelow w f 0 sets → slice_get sets i ≡ None → IsSetOf w (λ b. nat_lt (f b) i) (2 ^ 64 - 1)
+off_scale w f i sets h e k b g l = full_has k l ∙ sym (subst (λ j. nat_lt (f b) j ≡ true) (omega arith) (past_scale w f 0 i sets h e k b g l))
+
+-- no block of a world measures more than 12
+
+each_of : (f : Block → Bool) (w : List Block) → list_all f w ≡ true → (k : ℕ) (b : Block) → slice_get w k ≡ Some b → f b ≡ true
+each_of f [] h k b e = absurd (cc)
+each_of f (c ∷ cs) h zero b e = ap f (sym (same_Some c b e)) ∙ (and_parts (f c) (list_all f cs) h).0
+each_of f (c ∷ cs) h (suc k) b e = each_of f cs (and_parts (f c) (list_all f cs) h).1 k b e
+
+place_low : (n : ℕ) → is_place n ≡ true → nat_lt n 14 ≡ true
+place_low n h = lt-ltb n 14 (omega (arith, leb-true n 8 (and_parts (nat_le 1 n) (nat_le n 8) h).1))
+
+rank_low : (s : Size) → nat_lt (rank s) 14 ≡ true
+rank_low sz.Small = refl
+rank_low sz.Medium = refl
+rank_low sz.Large = refl
+
+faces_low : (s : Shape) → nat_lt (faces s) 14 ≡ true
+faces_low sh.Tet = refl
+faces_low sh.Cube = refl
+faces_low sh.Dodec = refl
+
+pub none_high : (w : List Block) (measure : Measure) → list_all is_on_board w ≡ true → OfEach w (λ k b. nat_lt (measure_of measure b) 14 ≡ true)
+none_high w m.Column h k b e l = place_low b.column (and_parts (is_place b.column) (is_place b.row) (each_of is_on_board w h k b e)).0
+none_high w m.Row h k b e l = place_low b.row (and_parts (is_place b.column) (is_place b.row) (each_of is_on_board w h k b e)).1
+none_high w m.Rank h k b e l = rank_low b.size
+none_high w m.Faces h k b e l = faces_low b.shape
+
+-- sets that are built block by block
+
+abbrev pub on_block : (Block → Bool) → Option Block → Bool
+on_block f None = false
+on_block f (Some b) = f b
+
+block_next : (w : List Block) (k : ℕ) → block_at w (k + 1) ≡ slice_get w k
+block_next w k = ap (slice_get w) (omega arith)
+
+pub block_read : (w : List Block) (k : ℕ) (d : Block) → k < length w → block_at w (k + 1) ≡ Some (get_or w k d)
+block_read w k d h = block_next w k ∙ slice_get-get_or w k d h
+
+pub marked_set : (w : List Block) (f : Block → Bool) (count bits : ℕ) → IsMarked (λ k. on_block f (block_at w k)) count bits → length w ≤ count → IsSetOf w f bits
+marked_set w f count bits h l k b e _ = h.below k (omega (arith, slice_get_within w k b e, l)) ∙ ap (on_block f) (block_next w k ∙ e)
+
+none_within : (w : List Block) (k : ℕ) → slice_get w k ≡ None → length w ≤ k
+none_within [] k e = omega arith
+none_within (b ∷ bs) zero e = absurd (cc)
+none_within (b ∷ bs) (suc k) e = omega (arith, none_within bs k e)
+
+pub set_extends : (w : List Block) (f : Block → Bool) (g : Option Block → Bool) (bits : ℕ) → IsSetOf w f bits → ((b : Block) → f b ≡ g (Some b)) → IsExtension w (λ k. g (block_at w k)) bits
+set_extends w f g bits h same k l low = by_block (slice_get w k) refl
+  where
+    by_block : (o : Option Block) → slice_get w k ≡ o → has bits k ≡ g (block_at w (k + 1))
+    by_block None e = absurd (omega (arith, l, none_within w k e))
+    by_block (Some b) e = h k b e low ∙ same b ∙ ap g (sym (block_next w k ∙ e))
+
+-- what is made of the sets of those that measure less
+
+above_fact : (m n : ℕ) → not (nat_lt m (n + 1)) ≡ nat_lt n m
+above_fact m n = elim (cases_lt m (n + 1)) [
+  | inl less ↦ rw (lt-ltb m (n + 1) less) (sym (le-ltb n m (omega (arith, less))))
+  | inr more ↦ rw (le-ltb m (n + 1) more) (sym (lt-ltb n m (omega (arith, more))))
+]
+
+same_fact : (m n : ℕ) → (nat_lt m (n + 1) && not (nat_lt m n)) ≡ (m == n)
+same_fact m n = elim (cases_order m n) [
+  | inl e ↦ rw (lt-ltb m (n + 1) (omega (arith, e))) (rw (le-ltb m n (omega (arith, e))) (sym (eq-eqb m n e)))
+  | inr other ↦ by_side other
+]
+  where
+    by_side : (m < n) ⊎ (n < m) → (nat_lt m (n + 1) && not (nat_lt m n)) ≡ (m == n)
+    by_side (inl h) = rw (lt-ltb m (n + 1) (omega (arith, h))) (rw (lt-ltb m n h) (sym (ne_eqb m n (λ e. absurd (omega (arith, h, e))))))
+    by_side (inr h) = rw (le-ltb m (n + 1) (omega (arith, h))) (sym (ne_eqb m n (λ e. absurd (omega (arith, h, e)))))
+
+next_fact : (m n : ℕ) → (nat_lt m (n + 2) && not (nat_lt m (n - 1) || (m == n))) ≡ (apart m n == 1)
+next_fact m n = elim (cases_order m n) [
+  | inl e ↦ rw (lt-ltb m (n + 2) (omega (arith, e))) (rw (le-ltb m (n - 1) (omega (arith, e))) (rw (eq-eqb m n e) (sym (ne_eqb (apart m n) 1 (λ d. absurd (omega (arith, e, d)))))))
+  | inr other ↦ by_side other
+]
+  where
+    less : m < n → (m + 1 ≡ n) ⊎ ((m + 1 < n) ⊎ (n < m + 1)) → (nat_lt m (n + 2) && not (nat_lt m (n - 1) || (m == n))) ≡ (apart m n == 1)
+    less h (inl e) = rw (lt-ltb m (n + 2) (omega (arith, h))) (rw (le-ltb m (n - 1) (omega (arith, e))) (rw (ne_eqb m n (λ d. absurd (omega (arith, h, d)))) (sym (eq-eqb (apart m n) 1 (omega (arith, e))))))
+    less h (inr (inl l)) = rw (lt-ltb m (n + 2) (omega (arith, h))) (rw (lt-ltb m (n - 1) (omega (arith, l))) (sym (ne_eqb (apart m n) 1 (λ d. absurd (omega (arith, l, d))))))
+    less h (inr (inr l)) = absurd (omega (arith, h, l))
+
+    more : n < m → (n + 1 ≡ m) ⊎ ((n + 1 < m) ⊎ (m < n + 1)) → (nat_lt m (n + 2) && not (nat_lt m (n - 1) || (m == n))) ≡ (apart m n == 1)
+    more h (inl e) = rw (lt-ltb m (n + 2) (omega (arith, e))) (rw (le-ltb m (n - 1) (omega (arith, h))) (rw (ne_eqb m n (λ d. absurd (omega (arith, h, d)))) (sym (eq-eqb (apart m n) 1 (omega (arith, e))))))
+    more h (inr (inl l)) = rw (le-ltb m (n + 2) (omega (arith, l))) (sym (ne_eqb (apart m n) 1 (λ d. absurd (omega (arith, l, d)))))
+    more h (inr (inr l)) = absurd (omega (arith, h, l))
+
+    by_side : (m < n) ⊎ (n < m) → (nat_lt m (n + 2) && not (nat_lt m (n - 1) || (m == n))) ≡ (apart m n == 1)
+    by_side (inl h) = less h (cases_order (m + 1) n)
+    by_side (inr h) = more h (cases_order (n + 1) m)
+
+pub above_set : (w : List Block) (f : Block → ℕ) (n a r : ℕ) → IsSetOf w (λ b. nat_lt (f b) (n + 1)) a → ((k : ℕ) → k < 64 → has r k ≡ not (has a k)) → IsSetOf w (λ b. nat_lt n (f b)) r
+above_set w f n a r h c k b e l = c k l ∙ ap not (h k b e l) ∙ above_fact (f b) n
+
+pub same_set : (w : List Block) (f : Block → ℕ) (n a b c r : ℕ) → IsSetOf w (λ x. nat_lt (f x) n) a → IsSetOf w (λ x. nat_lt (f x) (n + 1)) b → ((k : ℕ) → k < 64 → has c k ≡ not (has a k)) → ((k : ℕ) → has r k ≡ (has b k && has c k)) → IsSetOf w (λ x. f x == n) r
+same_set w f n a b c r h g lacks both k x e l =
+    both k ∙ ap₂ (λ p q. p && q) (g k x e l) (lacks k l ∙ ap not (h k x e l)) ∙ same_fact (f x) n
+
+pub next_set : (w : List Block) (f : Block → ℕ) (n most less same joint rest r : ℕ) → IsSetOf w (λ x. nat_lt (f x) (n + 2)) most → IsSetOf w (λ x. nat_lt (f x) (n - 1)) less → IsSetOf w (λ x. f x == n) same →
+    ((k : ℕ) → has joint k ≡ (has less k || has same k)) → ((k : ℕ) → k < 64 → has rest k ≡ not (has joint k)) → ((k : ℕ) → has r k ≡ (has most k && has rest k)) → IsSetOf w (λ x. apart (f x) n == 1) r
+next_set w f n most less same joint rest r h g i either lacks both k x e l =
+    both k ∙ ap₂ (λ p q. p && q) (h k x e l) (lacks k l ∙ ap not (either k ∙ ap₂ (λ p q. p || q) (g k x e l) (i k x e l))) ∙ next_fact (f x) n
+
+pub both_set : (w : List Block) (f g : Block → Bool) (a b r : ℕ) → IsSetOf w f a → IsSetOf w g b → ((k : ℕ) → has r k ≡ (has a k && has b k)) → IsSetOf w (λ x. f x && g x) r
+both_set w f g a b r h i both k x e l = both k ∙ ap₂ (λ p q. p && q) (h k x e l) (i k x e l)
+
+pub either_set : (w : List Block) (f g : Block → Bool) (a b r : ℕ) → IsSetOf w f a → IsSetOf w g b → ((k : ℕ) → has r k ≡ (has a k || has b k)) → IsSetOf w (λ x. f x || g x) r
+either_set w f g a b r h i either k x e l = either k ∙ ap₂ (λ p q. p || q) (h k x e l) (i k x e l)

@@ -1,0 +1,116 @@
+-- Sets of blocks by their bits.
+use Rattle.std.proofs.Common.{◌≡◌, ◌≢◌, ℕ, zero, suc, ◌+◌, ◌-◌, ◌^◌, ◌<◌, ◌≤◌, min, max, Bool, true, false, not, List, length, take, refl, sym, ap, ◌∙◌, subst, arith, w64, inl, inr}
+use Rattle.std.specs.Prelude.{◌&&◌, ◌||◌, ◌==◌, ◌%◌, ◌*◌, bit_and, bit_or, bit_xor}
+use lib.Count.{count_trailing_zeros}
+use Rattle.std.specs.Int.{bit_at, bit_not, trailing_ones, trailing_zeros}
+use Rattle.std.specs.List.{list_all, list_any}
+use Rattle.std.proofs.lemmas.Nat.Bits.{bit_at_and, bit_at_or, bit_at_xor, bit_at_not, bit_at-lt, bit_at-zero, bit_at_ones, bit_at-trailing_ones, bit_at-trailing_zeros, bit_at_set_same, bit_at_set_other}
+use Rattle.std.proofs.lemmas.Bool.{cases_lt}
+use Rattle.block_world.specs.declared.block.Block.{Block}
+use Rattle.block_world.specs.BlockSets.{has, HasAll, LacksOne, HasOne, HasNone}
+use Rattle.block_world.specs.Truth.{are_alike}
+use Rattle.block_world.specs.Worlds.{numbers}
+use Rattle.block_world.proofs.Numbers.{all_more, any_more, all_fails, any_holds, all_taken}
+
+bit_cases : (P : ℕ → Type 0) → P 0 → P 1 → (n : ℕ) → n < 2 → P n
+bit_cases P p q zero h = p
+bit_cases P p q (suc zero) h = q
+bit_cases P p q (suc (suc n)) h = absurd (omega (arith, h))
+
+two_bits : (P : ℕ → ℕ → Type 0) → P 0 0 → P 0 1 → P 1 0 → P 1 1 → (a b k : ℕ) → P (bit_at a k) (bit_at b k)
+two_bits P p q r s a b k =
+    bit_cases (λ m. P m (bit_at b k)) (bit_cases (P 0) p q (bit_at b k) (bit_at-lt b k)) (bit_cases (P 1) r s (bit_at b k) (bit_at-lt b k)) (bit_at a k) (bit_at-lt a k)
+
+-- where each of the first places is in the set just where the function is true, the set decides whether it always is
+all_so : (f : ℕ → Bool) (w : List Block) → ((k : ℕ) → k < length w → f (k + 1) ≡ true) → (i : ℕ) → i ≤ length w → list_all f (take i (numbers w)) ≡ true
+all_so f w h zero l = refl
+all_so f w h (suc i) l =
+    let e : suc i ≡ i + 1 = omega arith in
+    ap (λ j. list_all f (take j (numbers w))) e ∙ all_more f w i (omega (arith, l)) ∙ ap (λ b. b && f (i + 1)) (all_so f w h i (omega (arith, l))) ∙ h i (omega (arith, l))
+
+none_so : (f : ℕ → Bool) (w : List Block) → ((k : ℕ) → k < length w → f (k + 1) ≡ false) → (i : ℕ) → i ≤ length w → list_any f (take i (numbers w)) ≡ false
+none_so f w h zero l = refl
+none_so f w h (suc i) l =
+    let e : suc i ≡ i + 1 = omega arith in
+    ap (λ j. list_any f (take j (numbers w))) e ∙ any_more f w i (omega (arith, l)) ∙ ap (λ b. b || f (i + 1)) (none_so f w h i (omega (arith, l))) ∙ h i (omega (arith, l))
+
+pub all_decided : (f : ℕ → Bool) (w : List Block) (bits : ℕ) → ((k : ℕ) → k < length w → has bits k ≡ f (k + 1)) →
+    (b : Bool) → (b ≡ true → HasAll (length w) bits) → (b ≡ false → LacksOne (length w) bits) → b ≡ list_all f (numbers w)
+all_decided f w bits h true s t =
+    sym (ap (list_all f) (sym (all_taken w (length w) (omega arith))) ∙ all_so f w (λ k l. sym (h k l) ∙ s refl k l) (length w) (omega arith))
+all_decided f w bits h false s t =
+    let lack = t refl in sym (all_fails f w lack.0 lack.1 (sym (h lack.0 lack.1) ∙ lack.2))
+
+pub some_decided : (f : ℕ → Bool) (w : List Block) (bits : ℕ) → ((k : ℕ) → k < length w → has bits k ≡ f (k + 1)) →
+    (b : Bool) → (b ≡ true → HasOne (length w) bits) → (b ≡ false → HasNone (length w) bits) → b ≡ list_any f (numbers w)
+some_decided f w bits h true s t =
+    let one = s refl in sym (any_holds f w one.0 one.1 (sym (h one.0 one.1) ∙ one.2))
+some_decided f w bits h false s t =
+    sym (ap (list_any f) (sym (all_taken w (length w) (omega arith))) ∙ none_so f w (λ k l. sym (h k l) ∙ t refl k l) (length w) (omega arith))
+
+-- the operations
+pub has_complement : (a k : ℕ) → a < 2 ^ 64 → k < 64 → has (bit_not w64 a) k ≡ not (has a k)
+has_complement a k fits low = ap (λ n. n == 1) (bit_at_not w64 a k fits low) ∙ bit_cases (λ n. ((1 - n) == 1) ≡ not (n == 1)) refl refl (bit_at a k) (bit_at-lt a k)
+
+pub has_both : (a b k : ℕ) → has (bit_and a b) k ≡ (has a k && has b k)
+has_both a b k = ap (λ n. n == 1) (bit_at_and a b k) ∙ two_bits (λ m n. (min m n == 1) ≡ ((m == 1) && (n == 1))) refl refl refl refl a b k
+
+pub has_either : (a b k : ℕ) → has (bit_or a b) k ≡ (has a k || has b k)
+has_either a b k = ap (λ n. n == 1) (bit_at_or a b k) ∙ two_bits (λ m n. (max m n == 1) ≡ ((m == 1) || (n == 1))) refl refl refl refl a b k
+
+pub has_one : (a b k : ℕ) → has (bit_xor a b) k ≡ not (are_alike (has a k) (has b k))
+has_one a b k = ap (λ n. n == 1) (bit_at_xor a b k) ∙ two_bits (λ m n. ((m + n) % 2 == 1) ≡ not (are_alike (m == 1) (n == 1))) refl refl refl refl a b k
+
+with_true : (b c : Bool) → c ≡ true → true ≡ (b || c)
+with_true true c e = refl
+with_true false c e = sym e
+
+pub set_here : (a k : ℕ) (is_in : Bool) → k < 64 → is_in ≡ true → has (bit_or a (1 * 2 ^ k % 2 ^ 64)) k ≡ (has a k || is_in)
+set_here a k is_in low e = ap (λ n. n == 1) (bit_at_set_same w64 a k low) ∙ with_true (has a k) is_in e
+
+pub set_elsewhere : (a k j : ℕ) → k < 64 → j ≢ k → has (bit_or a (1 * 2 ^ k % 2 ^ 64)) j ≡ has a j
+set_elsewhere a k j low apart = ap (λ n. n == 1) (bit_at_set_other w64 a k low j apart)
+
+pub full_has : (k : ℕ) → k < 64 → has (2 ^ 64 - 1) k ≡ true
+full_has k low = ap (λ n. n == 1) (bit_at_ones 64 k low)
+
+pub empty_has : (k : ℕ) → has 0 k ≡ false
+empty_has k = ap (λ n. n == 1) (bit_at-zero k)
+
+full_ones : trailing_ones w64 (2 ^ 64 - 1) ≡ 64
+unfolding count_trailing_zeros
+full_ones = refl
+
+empty_zeros : trailing_zeros w64 0 ≡ 64
+unfolding count_trailing_zeros
+empty_zeros = refl
+
+full_is : (a : ℕ) → a < 2 ^ 64 → 2 ^ 64 ≤ a + 1 → a ≡ 2 ^ 64 - 1
+full_is a fits more = omega (arith, fits, more)
+
+pub ones_all : (a count : ℕ) → a < 2 ^ 64 → count ≤ 64 → count ≤ trailing_ones w64 a → HasAll count a
+ones_all a count fits most h k l = elim (cases_lt (a + 1) (2 ^ 64)) [
+  | inl less ↦ ap (λ n. n == 1) ((bit_at-trailing_ones w64 a less).2 k (omega (arith, h, l)))
+  | inr more ↦ subst (λ n. has n k ≡ true) (sym (full_is a fits more)) (full_has k (omega (arith, most, l)))
+]
+
+pub ones_lack : (a count : ℕ) → a < 2 ^ 64 → count ≤ 64 → trailing_ones w64 a < count → LacksOne count a
+ones_lack a count fits most h = elim (cases_lt (a + 1) (2 ^ 64)) [
+  | inl less ↦ (let t = bit_at-trailing_ones w64 a less in (trailing_ones w64 a, h, ap (λ n. n == 1) t.1))
+  | inr more ↦ absurd (omega (arith, most, full_ones, subst (λ n. trailing_ones w64 n < count) (full_is a fits more) h))
+]
+
+pub zeros_one : (a count : ℕ) → a < 2 ^ 64 → count ≤ 64 → trailing_zeros w64 a < count → HasOne count a
+zeros_one a count fits most h = elim (cases_lt 0 a) [
+  | inl some ↦ (let t = bit_at-trailing_zeros w64 a some fits in (trailing_zeros w64 a, h, ap (λ n. n == 1) t.1))
+  | inr none ↦ absurd (omega (arith, most, empty_zeros, subst (λ n. trailing_zeros w64 n < count) (zero_is a none) h))
+]
+  where
+    zero_is : (a : ℕ) → a ≤ 0 → a ≡ 0
+    zero_is a h = omega (arith, h)
+
+pub zeros_none : (a count : ℕ) → a < 2 ^ 64 → count ≤ 64 → count ≤ trailing_zeros w64 a → HasNone count a
+zeros_none a count fits most h k l = elim (cases_lt 0 a) [
+  | inl some ↦ ap (λ n. n == 1) ((bit_at-trailing_zeros w64 a some fits).2 k (omega (arith, h, l)))
+  | inr none ↦ subst (λ n. has n k ≡ false) (sym (omega (arith, none))) (empty_has k)
+]

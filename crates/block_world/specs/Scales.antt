@@ -1,0 +1,42 @@
+-- Blocks by what is measured of them.
+use Rattle.std.specs.Prelude.{◌≡◌, ℕ, ◌+◌, ◌<◌, Bool, true, nat_lt, List, [], ◌∷◌, Some}
+use Rattle.std.specs.List.{slice_get}
+use Rattle.block_world.specs.declared.block.Block.{Block}
+use Rattle.block_world.specs.declared.block_set.BlockSet.{BlockSet}
+use Rattle.block_world.specs.declared.scales.Measure.{Measure}
+use Rattle.block_world.specs.declared.scales.Measure.TheVariants.{Column, Row, Rank, Faces}
+use Rattle.block_world.specs.declared.scales.Scales.{Scales}
+use Rattle.block_world.specs.BlockSets.{has}
+use Rattle.block_world.specs.Geometry.{faces, rank}
+
+-- What is measured of a block.
+abbrev pub measure_of : Measure → Block → ℕ
+measure_of Column b = b.column
+measure_of Row b = b.row
+measure_of Rank b = rank b.size
+measure_of Faces b = faces b.shape
+
+-- The property holds of each of the first 64 blocks of a world, by the place of the block and the block.
+abbrev pub OfEach : List Block → (ℕ → Block → Type 0) → Type 0
+OfEach w P = (k : ℕ) (b : Block) → slice_get w k ≡ Some b → k < 64 → P k b
+
+-- Of the first 64 blocks of a world, the set has just those of which the function is true.
+abbrev pub IsSetOf : List Block → (Block → Bool) → ℕ → Type 0
+IsSetOf w f bits = OfEach w (λ k b. has bits k ≡ f b)
+
+-- The sets are, one after the other, those of the blocks that measure less than n, than n + 1 and so on, as far as some
+-- block doesn't measure less.
+abbrev pub AreBelow : List Block → (Block → ℕ) → ℕ → List BlockSet → Type 0
+AreBelow w f n [] = OfEach w (λ k b. nat_lt (f b) n ≡ true)
+AreBelow w f n (set ∷ sets) = IsSetOf w (λ b. nat_lt (f b) n) set.bits × AreBelow w f (n + 1) sets
+
+-- The scale of a measure.
+abbrev pub scale_at : Scales → Measure → List BlockSet
+scale_at s Column = s.columns
+scale_at s Row = s.rows
+scale_at s Rank = s.ranks
+scale_at s Faces = s.faces
+
+-- Each scale begins with the set of the blocks that measure less than 0.
+abbrev pub AreScales : List Block → Scales → Type 0
+AreScales w s = (m : Measure) → AreBelow w (measure_of m) 0 (scale_at s m)

@@ -1,0 +1,107 @@
+ghost use Rattle.std.specs.Prelude.{◌≡◌, ◌==◌, nat_lt, [], ◌∷◌, Some};
+ghost use Rattle.block_world.specs.Geometry.{apart, share_side};
+ghost use Rattle.block_world.specs.Predicates as spec;
+ghost use Rattle.block_world.specs.Scales.{measure_of, IsSetOf};
+ghost use Rattle.block_world.specs.Worlds.{block_at};
+
+use crate::block::Block;
+use crate::block_set::BlockSet;
+use crate::board::World;
+use crate::predicate::Predicate;
+use crate::scales::{Measure, set_at};
+
+impl World {
+    /// The blocks of which the predicate holds, if it is one that speaks of one block.
+    pub(crate) fn having(&self, predicate: Predicate) -> BlockSet
+        ensures value { IsSetOf self.now (spec.says_of_one predicate) result.bits }
+    {
+        match predicate {
+            Predicate::Tet => self.same(Measure::Faces, 4),
+            Predicate::Cube => self.same(Measure::Faces, 6),
+            Predicate::Dodec => self.same(Measure::Faces, 12),
+            Predicate::Small => self.same(Measure::Rank, 1),
+            Predicate::Medium => self.same(Measure::Rank, 2),
+            Predicate::Large => self.same(Measure::Rank, 3),
+            _ => BlockSet::EMPTY,
+        }
+    }
+
+    /// The blocks that stand to the one of the number as the predicate says, if it is one that speaks of two blocks.
+    pub(crate) fn related(&self, predicate: Predicate, number: u32) -> BlockSet
+        ensures value { IsSetOf self.now (λ b. spec.says predicate (Some b ∷ block_at self.now number ∷ [])) result.bits }
+    {
+        match self.block(number) {
+            Some(c) => self.related_to(predicate, &c),
+            None => BlockSet::EMPTY,
+        }
+    }
+
+    /// The blocks that stand to the given one as the predicate says, if it is one that speaks of two blocks.
+    fn related_to(&self, predicate: Predicate, c: &Block) -> BlockSet
+        ensures value { IsSetOf self.now (λ b. spec.says_of_two predicate b c.now) result.bits }
+    {
+        match predicate {
+            Predicate::SameSize => self.same(Measure::Rank, c.size.rank()),
+            Predicate::SameShape => self.same(Measure::Faces, c.shape.faces()),
+            Predicate::SameRow => self.same(Measure::Row, c.row),
+            Predicate::SameCol => self.same(Measure::Column, c.column),
+            Predicate::Larger => self.above(Measure::Rank, c.size.rank()),
+            Predicate::Smaller => self.below(Measure::Rank, usize::from(c.size.rank())),
+            Predicate::LeftOf => self.below(Measure::Column, usize::from(c.column)),
+            Predicate::RightOf => self.above(Measure::Column, c.column),
+            Predicate::FrontOf => self.below(Measure::Row, usize::from(c.row)),
+            Predicate::BackOf => self.above(Measure::Row, c.row),
+            Predicate::Adjoins => self.adjoining(c),
+            _ => BlockSet::EMPTY,
+        }
+    }
+
+    /// The blocks whose square shares a side with that of the given one.
+    fn adjoining(&self, c: &Block) -> BlockSet
+        ensures value { IsSetOf self.now (λ b. share_side b c.now) result.bits }
+    {
+        let in_row = self
+            .same(Measure::Row, c.row)
+            .intersection(self.next_to(Measure::Column, c.column));
+        let in_column = self
+            .same(Measure::Column, c.column)
+            .intersection(self.next_to(Measure::Row, c.row));
+        in_row.union(in_column)
+    }
+
+    /// The blocks that measure less than the number.
+    fn below(&self, measure: Measure, number: usize) -> BlockSet
+        ensures value { IsSetOf self.now (λ b. nat_lt (measure_of measure b) number) result.bits }
+    {
+        match set_at(self.scale(measure), number) {
+            Some(set) => set,
+            None => BlockSet::FULL,
+        }
+    }
+
+    /// The blocks that measure more than the number.
+    fn above(&self, measure: Measure, number: u8) -> BlockSet
+        ensures value { IsSetOf self.now (λ b. nat_lt number (measure_of measure b)) result.bits }
+    {
+        self.below(measure, usize::from(number) + 1).complement()
+    }
+
+    /// The blocks that measure just the number.
+    fn same(&self, measure: Measure, number: u8) -> BlockSet
+        ensures value { IsSetOf self.now (λ b. measure_of measure b == number) result.bits }
+    {
+        let less = self.below(measure, usize::from(number));
+        self.below(measure, usize::from(number) + 1)
+            .intersection(less.complement())
+    }
+
+    /// The blocks that measure one more or one less than the number.
+    fn next_to(&self, measure: Measure, number: u8) -> BlockSet
+        ensures value { IsSetOf self.now (λ b. apart (measure_of measure b) number == 1) result.bits }
+    {
+        let most = self.below(measure, usize::from(number) + 2);
+        let less = self.below(measure, usize::from(number.saturating_sub(1)));
+        let same = self.same(measure, number);
+        most.intersection(less.union(same).complement())
+    }
+}

@@ -1,0 +1,112 @@
+ghost use Rattle.std.specs.Prelude.{◌≡◌, ◌<◌, ◌≤◌, true, length, nat_lt};
+ghost use Rattle.std.specs.List.{list_all, slice_get};
+ghost use Rattle.block_world.specs.Geometry.{is_on_board};
+ghost use Rattle.block_world.specs.Scales.{measure_of, scale_at, AreBelow, AreScales, IsSetOf};
+
+use crate::block::Block;
+use crate::block_set::BlockSet;
+
+/// What is measured of a block.
+#[derive(Clone, Copy)]
+pub enum Measure {
+    Column,
+    Row,
+    /// The rank of the size.
+    Rank,
+    /// The number of faces of the shape.
+    Faces,
+}
+
+impl Measure {
+    fn of(self, b: &Block) -> u8
+        ensures value { result ≡ measure_of self b.now }
+    {
+        match self {
+            Measure::Column => b.column,
+            Measure::Row => b.row,
+            Measure::Rank => b.size.rank(),
+            Measure::Faces => b.shape.faces(),
+        }
+    }
+}
+
+/// For each number from 0 to 13 the blocks that measure less; no block measures more than 12.
+type Scale = [BlockSet; 14];
+
+/// The blocks of a world by what they measure.
+#[derive(Clone, Copy, Debug)]
+pub struct Scales {
+    columns: Scale,
+    rows: Scale,
+    ranks: Scale,
+    faces: Scale,
+}
+
+impl Scales {
+    pub(crate) fn of(blocks: &[Block]) -> Scales
+        requires few { length blocks.now ≤ 64 }
+        requires on_board { list_all is_on_board blocks.now ≡ true }
+        ensures value { AreScales blocks.now result }
+    {
+        Scales {
+            columns: scale_of(blocks, Measure::Column),
+            rows: scale_of(blocks, Measure::Row),
+            ranks: scale_of(blocks, Measure::Rank),
+            faces: scale_of(blocks, Measure::Faces),
+        }
+    }
+
+    /// For each number the blocks that measure less.
+    pub(crate) fn scale(&self, measure: Measure) -> &[BlockSet]
+        ensures value { result.now ≡ scale_at self.now measure }
+    {
+        match measure {
+            Measure::Column => &self.columns,
+            Measure::Row => &self.rows,
+            Measure::Rank => &self.ranks,
+            Measure::Faces => &self.faces,
+        }
+    }
+}
+
+/// The set at the number, where the scale goes so far.
+pub(crate) fn set_at(scale: &[BlockSet], number: usize) -> Option<BlockSet>
+    ensures value { result ≡ slice_get scale.now number }
+{
+    scale.get(number).copied()
+}
+
+fn scale_of(blocks: &[Block], measure: Measure) -> Scale
+    requires few { length blocks.now ≤ 64 }
+    requires on_board { list_all is_on_board blocks.now ≡ true }
+    ensures value { AreBelow blocks.now (measure_of measure) 0 result }
+{
+    [
+        below(blocks, measure, 0),
+        below(blocks, measure, 1),
+        below(blocks, measure, 2),
+        below(blocks, measure, 3),
+        below(blocks, measure, 4),
+        below(blocks, measure, 5),
+        below(blocks, measure, 6),
+        below(blocks, measure, 7),
+        below(blocks, measure, 8),
+        below(blocks, measure, 9),
+        below(blocks, measure, 10),
+        below(blocks, measure, 11),
+        below(blocks, measure, 12),
+        below(blocks, measure, 13),
+    ]
+}
+
+/// The blocks that measure less than the number.
+fn below(blocks: &[Block], measure: Measure, number: u8) -> BlockSet
+    requires few { length blocks.now ≤ 64 }
+    ensures value { IsSetOf blocks.now (λ b. nat_lt (measure_of measure b) number) result.bits }
+{
+    let mut set = BlockSet::EMPTY;
+    for place in 0..blocks.len() {
+        set = set.with(place as u32, measure.of(&blocks[place]) < number);
+    }
+    set
+}
