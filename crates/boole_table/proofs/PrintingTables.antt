@@ -1,9 +1,9 @@
 -- What is printed of a table is read back as that table.
-use Rattle.std.proofs.Common.{◌≡◌, ◌≢◌, ℕ, ◌+◌, ◌<◌, Bool, true, false, not, List, [], ◌∷◌, ◌++◌, length, map, refl, sym, ap, subst, ◌∙◌, append_assoc, arith, inl}
+use Rattle.std.proofs.Common.{◌≡◌, ◌≢◌, ℕ, ◌+◌, ◌<◌, Bool, true, false, List, [], ◌∷◌, ◌++◌, length, map, refl, sym, ap, subst, ◌∙◌, append_assoc, arith, inl}
 use Rattle.std.specs.Prelude.{if◌then◌else◌}
 use Rattle.std.specs.List.{AllByRecursion, flat_map}
 use Rattle.std.specs.Str.Lines.{lines}
-use Rattle.texts.specs.Blanks.{after_blanks, trimmed}
+use Rattle.texts.specs.Blanks.{trimmed}
 use Rattle.texts.specs.Cuts.{Lacks, IsCut}
 use Rattle.texts.proofs.Splitting.{lines-cut}
 use Rattle.fol_core.specs.declared.sent.Sent.{Sent}
@@ -176,7 +176,7 @@ sentences_line_back (s ∷ ss) n h = record {
   suit = tt;
 }
 
--- The keyword begins and ends with a visible byte, and has no line feed; so does the line.
+-- The keyword begins and ends with a visible byte, and has no line feed.
 record IsKeyword (word : List ℕ) : Type 0 where
   pub begins : begins_well word ≡ true
   pub ends : ends_well word ≡ true

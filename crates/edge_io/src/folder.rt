@@ -1,5 +1,4 @@
-ghost use Rattle.std.specs.Prelude.{◌≡◌, ◌≤◌, None, length, IfOk, IsTrue};
-ghost use Rattle.std.specs.Prelude.{Ok};
+ghost use Rattle.std.specs.Prelude.{◌≡◌, ◌≤◌, None, Ok, length, IfOk, IsTrue};
 ghost use Rattle.edge_io.specs.Names as names;
 ghost use Rattle.edge_io.specs.Shelves.{Answers, HasShelfCause, IsWithinLimit, untold};
 

@@ -1,9 +1,9 @@
 -- The parts of a text are no longer than it.
-use Rattle.std.proofs.Common.{◌≡◌, ℕ, ◌+◌, ◌≤◌, Bool, true, false, List, [], ◌∷◌, ◌++◌, length, arith, ap, Option, Some, None, length-append}
+use Rattle.std.proofs.Common.{ℕ, ◌≤◌, List, [], ◌∷◌, length, arith, ap, Option, Some, None, length-append}
 use Rattle.std.specs.Prelude.{◌==◌, if◌then◌else◌}
 use Rattle.std.specs.Fmt.{decimal}
-use Rattle.texts.specs.Blanks.{is_blank, after_blanks}
-use Rattle.physical_lines.proofs.Lengths.{either_fits, after_blanks_fits, trimmed_fits}
+use Rattle.texts.specs.Blanks.{is_blank}
+use Rattle.physical_lines.proofs.Lengths.{either_fits, trimmed_fits}
 use Rattle.fol_core.specs.Word.{Word}
 use Rattle.fitch_file.specs.Numbering.{IsNumbered, after_bars}
 use Rattle.fitch_file.specs.Boxes.{IsBoxed}

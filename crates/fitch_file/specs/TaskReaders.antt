@@ -1,6 +1,5 @@
 -- What the parts of the reader of tasks answer, each about the piece of text that it is given.
 use Rattle.std.specs.Prelude.{◌≡◌, ℕ, ◌+◌, List, ◌⊎◌}
-use Rattle.texts.specs.Lines.{IsFirstLine}
 use Rattle.fol_text.specs.declared.fault.ReadFault.{ReadFault}
 use Rattle.fol_text.specs.declared.fault.ReadFault.TheVariants as read_fault
 use Rattle.fitch_file.specs.declared.fault.TaskFault.{TaskFault}

@@ -1,6 +1,6 @@
 -- A play is fixed by the player's choices, as far as these go.
-use Rattle.std.proofs.Common.{◌≡◌, ℕ, ◌+◌, ◌<◌, ◌≤◌, Bool, true, false, List, [], ◌∷◌, ◌++◌, refl, ap, ap₂, sym, subst, ◌∙◌, arith, inl, inr, append-nil}
-use Rattle.std.specs.Prelude.{◌⊎◌, ⊤}
+use Rattle.std.proofs.Common.{◌≡◌, ℕ, ◌+◌, ◌<◌, ◌≤◌, true, false, List, [], ◌∷◌, ◌++◌, refl, ap, ap₂, sym, subst, ◌∙◌, arith, inl, inr, append-nil}
+use Rattle.std.specs.Prelude.{◌⊎◌}
 use Rattle.block_world.specs.declared.block.Block.{Block}
 use Rattle.hintikka_game.specs.declared.game.GameFault.{GameFault}
 use Rattle.hintikka_game.specs.declared.game.GameFault.TheVariants as faults
@@ -14,7 +14,7 @@ use Rattle.hintikka_game.specs.declared.turn.Move.{Move}
 use Rattle.hintikka_game.specs.declared.turn.Move.TheVariants as moves
 use Rattle.hintikka_game.specs.Turns.{turn_of}
 use Rattle.hintikka_game.specs.Plays.{IsAllowed, IsPlay, after, end_of, chosen, first_losing_of}
-use Rattle.hintikka_game.specs.Replays.{EndsAs, IsReplay, IsRefused, IsStopped}
+use Rattle.hintikka_game.specs.Replays.{EndsAs, IsReplay, IsRefused}
 use Rattle.hintikka_game.specs.ReplayLaws.{OneReplay, OneRefusal, NeverBoth}
 
 -- one move, and the choices behind it

@@ -12,13 +12,12 @@ use Rattle.deriv_laws.specs.declared.rule.Rule.{Rule}
 use Rattle.deriv_laws.specs.declared.rule.Rule.TheVariants as r
 use Rattle.deriv_laws.specs.declared.line.Cite.{Cite}
 use Rattle.deriv_laws.specs.declared.line.FlatLine.{FlatLine}
-use Rattle.nested_proofs.specs.Placed.{Placed}
 use Rattle.nested_proofs.specs.Limits.{AreLines, IsLineForm}
 use Rattle.nested_proofs.specs.AtLine.{AtLine}
 use Rattle.nested_proofs.specs.CiteTests.{cites_fault, is_inferred}
 use Rattle.nested_proofs.specs.Scope.{prepend}
 use Rattle.nested_proofs.specs.ReadOff.{stated_at, stated_by, sentences_read}
-use Rattle.nested_proofs.proofs.Reading.{Agrees, where_agrees, at_each, line_at}
+use Rattle.nested_proofs.proofs.Reading.{where_agrees, at_each, line_at}
 use Rattle.nested_proofs.proofs.AtCited.{HasCites, FindsAsRead, line_placed, cites_passed, finds_as_read}
 use Rattle.taut_con.specs.Answer.{taut_answer}
 use Rattle.proof_check.specs.declared.verdict.LineFault.{LineFault}

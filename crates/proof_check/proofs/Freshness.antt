@@ -1,7 +1,7 @@
 -- A constant that was fresh where it was boxed before.
-use Rattle.std.proofs.Common.{◌≡◌, ℕ, zero, suc, ◌+◌, ◌-◌, ◌<◌, ◌≤◌, min, Bool, true, false, not, cond, List, length, refl, ap, sym, subst, ◌∙◌, arith, Option, Some, None}
+use Rattle.std.proofs.Common.{◌≡◌, ℕ, zero, suc, ◌-◌, ◌<◌, ◌≤◌, min, Bool, true, false, cond, List, length, refl, ap, sym, ◌∙◌, arith, Option, Some, None}
 use Rattle.std.specs.Prelude.{slice_get, nat_le, ◌&&◌}
-use Rattle.std.specs.List.{AllByRecursion, list_any}
+use Rattle.std.specs.List.{list_any}
 use Rattle.std.proofs.lemmas.Bool.{leb-true, le-leb}
 use Rattle.std.proofs.lemmas.Option.{get_or_from_slice_get}
 use Rattle.fol_core.specs.declared.sent.Sent.{Sent}
@@ -20,7 +20,6 @@ use Rattle.nested_proofs.specs.AtLine.{AtLine}
 use Rattle.nested_proofs.specs.Fresh.{HasFreshBox}
 use Rattle.nested_proofs.specs.Hearing.{is_word, speaks_of, silent_before, silent}
 use Rattle.nested_proofs.specs.Faults.{IsFailureBy}
-use Rattle.nested_proofs.proofs.Reading.{Agrees}
 use Rattle.nested_proofs.proofs.AtCited.{line_placed}
 use Rattle.nested_proofs.proofs.Silence.{FreshAsSaid, fresh_where_silent, passes_on}
 use Rattle.fitch_file.specs.declared.task.Task.{Task}

@@ -27,7 +27,6 @@ use Rattle.rules_quant.specs.Quantified.{is_quantified}
 use Rattle.rules_quant.specs.FailsAs.{FailsAs}
 use Rattle.proof_check.specs.declared.verdict.LineFault.{LineFault}
 use Rattle.proof_check.specs.declared.verdict.LineFault.TheVariants as l
-use Rattle.fitch_file.specs.declared.task.Allowed.{Allowed}
 use Rattle.fitch_file.specs.declared.task.Task.{Task}
 use Rattle.proof_check.specs.Failing.{is_own, is_allowed, answers, IsLineFailure, IsLineFault}
 use Rattle.proof_check.specs.Readers.{IsTested, IsRuleFault, IsBoxFault, IsStepFault, Stands}

@@ -1,7 +1,6 @@
 -- Steps by tautological consequence.
-use Rattle.std.proofs.Common.{◌≡◌, ℕ, ◌+◌, ◌-◌, ◌<◌, ◌≤◌, true, false, List, [], ◌∷◌, ◌++◌, length, get_or, refl, ap, sym, subst, ◌∙◌, Bool, Option, Some, None, Result, Ok, Err, IsTrue, append-nil}
+use Rattle.std.proofs.Common.{◌≡◌, ℕ, ◌+◌, ◌-◌, ◌<◌, ◌≤◌, true, false, List, [], ◌++◌, length, get_or, refl, ap, sym, subst, ◌∙◌, Bool, Option, Some, None, Result, Ok, Err, IsTrue, append-nil}
 use Rattle.std.specs.Prelude.{MatchResult, ◌≢◌, ◌||◌, ◌&&◌}
-use Rattle.std.specs.List.{AllByRecursion}
 use Rattle.fol_core.specs.declared.sent.Sent.{Sent}
 use Rattle.fol_core.specs.Closed.{closed}
 use Rattle.deriv_laws.specs.declared.rule.Rule.{Rule}

@@ -13,7 +13,7 @@ use Rattle.block_world.specs.Answers.{truth_of}
 use Rattle.sentence_lists.specs.declared.list.ListFault.{ListFault}
 use Rattle.sentence_lists.specs.declared.list.ListFault.TheVariants.{Sentence, TooManySentences, Memory}
 use Rattle.sentence_lists.specs.SentenceLines.{SpellAtMost, ListFails, refused_line as refused_here, one_too_many, past_blank, past_sentence}
-use Rattle.tutor_app.specs.World.{world_answers, answered_each, refused_line, answer_word, answer_lines, answers_reply}
+use Rattle.tutor_app.specs.World.{world_answers, answered_each, refused_line, answer_word, answer_lines}
 use Rattle.tutor_app.specs.Report.{unreadable_reply, list_text}
 use Rattle.tutor_app.specs.Transfer.{input_limit}
 use Rattle.tutor_app.specs.declared.tool.Reply.{Reply}

@@ -1,5 +1,5 @@
 -- The reply of the command `play`, from what its parts answer.
-use Rattle.std.proofs.Common.{◌≡◌, ◌≢◌, ℕ, Bool, List, sym, subst, ◌∙◌, refl, Result, Ok, Err, IfOk, inl, inr}
+use Rattle.std.proofs.Common.{◌≡◌, ◌≢◌, ℕ, Bool, List, sym, subst, refl, Result, Ok, Err, IfOk, inl, inr}
 use Rattle.std.specs.Prelude.{◌⊎◌, IsTrue}
 use Rattle.fol_core.specs.Closed.{closed}
 use Rattle.fol_core.specs.Size.{within_limits}

@@ -1,8 +1,8 @@
 -- A run over a shelf and an input that are told.
 use Rattle.std.proofs.Common.{◌≡◌, ℕ, ◌<◌, ◌≤◌, List, [], ◌∷◌, length, ap, ◌∙◌, sym, refl, subst, arith, Option, Some, None, inl, inr}
-use Rattle.std.specs.Prelude.{◌⊎◌, IsSomeAnd}
+use Rattle.std.specs.Prelude.{IsSomeAnd}
 use Rattle.edge_io.specs.Shelves.{TextsByName, text_limit}
-use Rattle.tutor_app.specs.Run.{ToolRuns, ToolRunsOn}
+use Rattle.tutor_app.specs.Run.{ToolRunsOn}
 use Rattle.tutor_app.specs.ShelvedRun.{ShelvedRuns, ShelvedRunsOn}
 use Rattle.tutor_app.specs.World.{world_words}
 use Rattle.tutor_app.specs.declared.tool.Reply.{Reply}

@@ -1,5 +1,5 @@
 -- The command `play`: the game that the input describes is played with the choices that it gives.
-use Rattle.std.specs.Prelude.{◌≡◌, ℕ, Bool, List, [], ◌∷◌, ◌++◌, Option, Some, None, Result, Ok, Err, codes}
+use Rattle.std.specs.Prelude.{◌≡◌, ℕ, Bool, List, [], ◌∷◌, ◌++◌, Option, Some, None, Ok, Err, codes}
 use Rattle.std.specs.List.{flat_map}
 use Rattle.block_world.specs.declared.answer.TruthFault.{TruthFault}
 use Rattle.block_world.specs.declared.reading.WorldFault.{WorldFault}

@@ -1,5 +1,5 @@
 -- The laws that a tool owes, for the command `play`.
-use Rattle.std.specs.Prelude.{◌≡◌, ℕ, List, refl, Ok, Err}
+use Rattle.std.specs.Prelude.{◌≡◌, ℕ, List, refl}
 use Rattle.std.proofs.Common.{ap, ap₂, sym, subst, ◌∙◌, inl, inr}
 use Rattle.hintikka_game.specs.Games.{opened}
 use Rattle.hintikka_game.proofs.OneReplay.{one_replay, one_refusal, never_both as never_played}

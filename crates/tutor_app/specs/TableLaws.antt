@@ -1,5 +1,5 @@
 -- The laws that a tool owes, for the command `table`.
-use Rattle.std.specs.Prelude.{◌≡◌, ℕ, ◌<◌, ◌≤◌, List, ◌∷◌, length, refl}
+use Rattle.std.specs.Prelude.{◌≡◌, ℕ, List, refl}
 use Rattle.std.specs.Str.Lines.{lines}
 use Rattle.std.proofs.Common.{arith, ap₂, subst, inl, inr}
 use Rattle.fol_core.specs.declared.sent.Sent.{Sent}

@@ -1,14 +1,13 @@
-use Rattle.std.proofs.Common.{◌≡◌, ℕ, ◌-◌, ◌+◌, ◌<◌, ◌≤◌, ◌++◌, [], ◌∷◌, length, map, get_or, ap, ap₂, sym, subst, ◌∙◌, arith, Some, rules}
-use Rattle.std.specs.Prelude.{slice_get, IfOk}
+use Rattle.std.proofs.Common.{◌≡◌, ◌-◌, ◌≤◌, length, get_or, ap, ap₂, sym, subst, ◌∙◌, Some}
+use Rattle.std.specs.Prelude.{slice_get}
 use Rattle.std.specs.List.{AllByRecursion}
-use Rattle.fol_core.specs.Size.{total, nodes}
-use Rattle.nested_proofs.specs.AtLine.{AtLine}
+use Rattle.fol_core.specs.Size.{nodes}
 use Rattle.nested_proofs.specs.ReadOff.{IsWithin, sentences_read}
 use Rattle.nested_proofs.proofs.AtCited.{HasCites}
 use Rattle.nested_proofs.proofs.Reading.{line_at}
 use Rattle.taut_con.specs.Answer.{taut_answer}
 use Rattle.proof_check.specs.Failing.{taut_fault}
-use Rattle.proof_check.proofs.Cited.{cites_at, table_at, stated_few, cited_few, few_cites, small_in_all, no_statement}
+use Rattle.proof_check.proofs.Cited.{cites_at, table_at, stated_few, few_cites, small_in_all, no_statement}
 use Rattle.proof_check.proofs.consequence.table_fault.Goals as goal
 
 pub returns-in_default : goal.returns-in_default

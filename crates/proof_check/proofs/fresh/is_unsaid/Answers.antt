@@ -1,5 +1,5 @@
 -- One line back.
-use Rattle.std.proofs.Common.{◌≡◌, ◌∙◌, ◌-◌, ◌+◌, ◌<◌, ◌≤◌, min, not, length, Some, ap, ap₂, sym, arith, true, false, rules}
+use Rattle.std.proofs.Common.{◌≡◌, ◌∙◌, ◌-◌, ◌+◌, ◌<◌, ◌≤◌, min, not, length, Some, ap, ap₂, sym, arith, true, false}
 use Rattle.std.specs.Prelude.{nat_le, ◌&&◌, slice_get}
 use Rattle.nested_proofs.specs.Hearing.{silent, speaks_of, is_word}
 use Rattle.nested_proofs.specs.Items.{opens}
