@@ -8,22 +8,7 @@ tutor=$here/../tutor
 runs=${1:-20}
 input=$(mktemp)
 trap 'rm -f "$input"' EXIT
-
-# The time of one run of a command over the input, in microseconds: the mean of $runs runs.
-mean() {
-    begin=$(date +%s%N)
-    run=0
-    while [ "$run" -lt "$runs" ]; do
-        "$@" < "$input" > /dev/null || true
-        run=$((run + 1))
-    done
-    end=$(date +%s%N)
-    echo $(((end - begin) / runs / 1000))
-}
-
-milliseconds() {
-    awk -v micros="$1" 'BEGIN { printf "%.2f", micros / 1000 }'
-}
+. "$here/timing.sh"
 
 "$tutor" > /dev/null || true # builds the program where it isn't there
 for shape in blocks terms nested boxed; do
@@ -32,6 +17,6 @@ for shape in blocks terms nested boxed; do
         sh "$here/proof.sh" "$lines" 78 "$shape" > "$input"
         answer=$("$tutor" check < "$input") || true
         printf '%6d %8d %8s %8s  %s\n' "$(grep -c '^[0-9]' "$input")" "$(wc -c < "$input")" \
-            "$(milliseconds "$(mean cat)")" "$(milliseconds "$(mean "$tutor" check)")" "$answer"
+            "$(milliseconds "$(mean "$input" cat)")" "$(milliseconds "$(mean "$input" "$tutor" check)")" "$answer"
     done
 done

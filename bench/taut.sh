@@ -7,6 +7,7 @@ tutor=$here/../tutor
 runs=${1:-10}
 input=$(mktemp)
 trap 'rm -f "$input"' EXIT
+. "$here/timing.sh"
 
 # A conjunction of 57 biconditionals, each of a biconditional and itself: 7 nodes a part, and the conjunction's own.
 sentence=$(awk 'BEGIN {
@@ -20,11 +21,4 @@ printf 'task 1\ngoal %s\ncon Taut\nproof 1\n1 | %s ; Taut Con\n' "$sentence" "$s
 
 "$tutor" > /dev/null || true # builds the program where it isn't there
 "$tutor" check < "$input" || true
-begin=$(date +%s%N)
-run=0
-while [ "$run" -lt "$runs" ]; do
-    "$tutor" check < "$input" > /dev/null || true
-    run=$((run + 1))
-done
-end=$(date +%s%N)
-echo "$(((end - begin) / runs / 1000000)) milliseconds for 65536 rows"
+echo "$(milliseconds "$(mean "$input" "$tutor" check)") milliseconds for 65536 rows"

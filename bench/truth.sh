@@ -9,6 +9,7 @@ tutor=$here/../tutor
 runs=${1:-5}
 folder=$(mktemp -d)
 trap 'rm -rf "$folder"' EXIT
+. "$here/timing.sh"
 
 # A world with so many blocks, on the first squares of the board.
 blocks() {
@@ -44,29 +45,13 @@ units() {
     }'
 }
 
-# The time of one run of a command over the sentence, in microseconds: the mean of $runs runs.
-mean() {
-    begin=$(date +%s%N)
-    run=0
-    while [ "$run" -lt "$runs" ]; do
-        "$@" < "$folder/sentence" > /dev/null
-        run=$((run + 1))
-    done
-    end=$(date +%s%N)
-    echo $(((end - begin) / runs / 1000))
-}
-
-milliseconds() {
-    awk -v micros="$1" 'BEGIN { printf "%.2f", micros / 1000 }'
-}
-
 # row BLOCKS QUANTIFIERS BODY_UNITS SENTENCE
 row() {
     printf '%s\n' "$4" > "$folder/sentence"
     work=$(units "$2" "$3" "$1")
     answer=$("$tutor" world "board$1" < "$folder/sentence")
-    printf '%6d %9d %8s %8s  %-6s %.70s\n' "$1" "$work" "$(milliseconds "$(mean "$folder/count" "$work")")" \
-        "$(milliseconds "$(mean "$tutor" world "board$1")")" "$answer" "$4"
+    printf '%6d %9d %8s %8s  %-6s %.70s\n' "$1" "$work" "$(milliseconds "$(mean "$folder/sentence" "$folder/count" "$work")")" \
+        "$(milliseconds "$(mean "$folder/sentence" "$tutor" world "board$1")")" "$answer" "$4"
 }
 
 cat > "$folder/count.c" <<'END'
