@@ -3,10 +3,15 @@ pub mod Ending
 pub mod Forms
 pub mod Extending
 pub mod Letters
+pub mod Filling
+pub mod Joining
+pub mod Lining
 pub mod Marking
 pub mod Naming
 pub mod Numbers
+pub mod Numerals
 pub mod Placing
+pub mod Pairing
 pub mod Printing
 pub mod PrintedBack
 pub mod Parts
@@ -17,5 +22,6 @@ pub mod Saying
 pub mod Scaling
 pub mod Sets
 pub mod Squaring
+pub mod Standings
 pub mod Swapping
 pub mod Wording

@@ -10,7 +10,7 @@ use Rattle.block_world.specs.Worlds.{numbers}
 pub number_at_place : (w : List Block) (i : ℕ) → i < length w → get_or (numbers w) i 0 ≡ i + 1
 number_at_place w i h = get_or-range_with_len 1 (length w) i 0 h ∙ omega arith
 
-within : (w : List Block) (i : ℕ) → i < length w → i < length (numbers w)
+pub within : (w : List Block) (i : ℕ) → i < length w → i < length (numbers w)
 within w i h = omega (arith, h, length-range_with_len 1 (length w))
 
 pub all_more : (f : ℕ → Bool) (w : List Block) (i : ℕ) → i < length w → list_all f (take (i + 1) (numbers w)) ≡ (list_all f (take i (numbers w)) && f (i + 1))

@@ -3,7 +3,7 @@ use Rattle.std.proofs.Common.{◌≡◌, ℕ, zero, suc, ◌+◌, ◌-◌, ◌^�
 use Rattle.std.specs.Prelude.{◌&&◌, ◌||◌, ◌==◌, nat_lt, nat_le, Option, Some, None}
 use Rattle.std.specs.List.{slice_get, list_all}
 use Rattle.std.proofs.lemmas.Option.{slice_get_within, slice_get-get_or, same_Some}
-use Rattle.std.proofs.lemmas.Bool.{leb-true, lt-ltb, ltb-true, le-ltb, eq-eqb, ne_eqb, and_parts, cases_lt, cases_order}
+use Rattle.std.proofs.lemmas.Bool.{leb-true, lt-ltb, ltb-true, le-ltb, eq-eqb, ne_eqb, and_parts, cases_order}
 use Rattle.block_world.specs.declared.block.Block.{Block}
 use Rattle.block_world.specs.declared.block.Shape.{Shape}
 use Rattle.block_world.specs.declared.block.Shape.TheVariants as sh
@@ -41,31 +41,47 @@ on_scale w f i sets set h e = subst (λ j. IsSetOf w (λ b. nat_lt (f b) j) set.
 pub off_scale : (w : List Block) (f : Block → ℕ) (i : ℕ) (sets : List BlockSet) → AreBelow w f 0 sets → slice_get sets i ≡ None → IsSetOf w (λ b. nat_lt (f b) i) (2 ^ 64 - 1)
 off_scale w f i sets h e k b g l = full_has k l ∙ sym (subst (λ j. nat_lt (f b) j ≡ true) (omega arith) (past_scale w f 0 i sets h e k b g l))
 
--- no block of a world measures more than 12
+-- no block of a world measures more than 16
 
-each_of : (f : Block → Bool) (w : List Block) → list_all f w ≡ true → (k : ℕ) (b : Block) → slice_get w k ≡ Some b → f b ≡ true
+pub each_of : (f : Block → Bool) (w : List Block) → list_all f w ≡ true → (k : ℕ) (b : Block) → slice_get w k ≡ Some b → f b ≡ true
 each_of f [] h k b e = absurd (cc)
 each_of f (c ∷ cs) h zero b e = ap f (sym (same_Some c b e)) ∙ (and_parts (f c) (list_all f cs) h).0
 each_of f (c ∷ cs) h (suc k) b e = each_of f cs (and_parts (f c) (list_all f cs) h).1 k b e
 
-place_low : (n : ℕ) → is_place n ≡ true → nat_lt n 14 ≡ true
-place_low n h = lt-ltb n 14 (omega (arith, leb-true n 8 (and_parts (nat_le 1 n) (nat_le n 8) h).1))
+place_low : (n : ℕ) → is_place n ≡ true → nat_lt n 17 ≡ true
+place_low n h = lt-ltb n 17 (omega (arith, leb-true n 8 (and_parts (nat_le 1 n) (nat_le n 8) h).1))
 
-rank_low : (s : Size) → nat_lt (rank s) 14 ≡ true
+rank_low : (s : Size) → nat_lt (rank s) 17 ≡ true
 rank_low sz.Small = refl
 rank_low sz.Medium = refl
 rank_low sz.Large = refl
 
-faces_low : (s : Shape) → nat_lt (faces s) 14 ≡ true
+faces_low : (s : Shape) → nat_lt (faces s) 17 ≡ true
 faces_low sh.Tet = refl
 faces_low sh.Cube = refl
 faces_low sh.Dodec = refl
 
-pub none_high : (w : List Block) (measure : Measure) → list_all is_on_board w ≡ true → OfEach w (λ k b. nat_lt (measure_of measure b) 14 ≡ true)
+-- the column and the row of a block on the board
+pub place_of : (b : Block) → is_on_board b ≡ true → (1 ≤ b.column) × (b.column ≤ 8) × (1 ≤ b.row) × (b.row ≤ 8)
+place_of b h =
+    let both = and_parts (is_place b.column) (is_place b.row) h in
+    let column = and_parts (nat_le 1 b.column) (nat_le b.column 8) both.0 in
+    let row = and_parts (nat_le 1 b.row) (nat_le b.row 8) both.1 in
+    (leb-true 1 b.column column.0, leb-true b.column 8 column.1, leb-true 1 b.row row.0, leb-true b.row 8 row.1)
+
+rising_low : (b : Block) → is_on_board b ≡ true → nat_lt (b.row + 8 - b.column) 17 ≡ true
+rising_low b h = let p = place_of b h in lt-ltb (b.row + 8 - b.column) 17 (omega (arith, p.0, p.3))
+
+falling_low : (b : Block) → is_on_board b ≡ true → nat_lt (b.column + b.row) 17 ≡ true
+falling_low b h = let p = place_of b h in lt-ltb (b.column + b.row) 17 (omega (arith, p.1, p.3))
+
+pub none_high : (w : List Block) (measure : Measure) → list_all is_on_board w ≡ true → OfEach w (λ k b. nat_lt (measure_of measure b) 17 ≡ true)
 none_high w m.Column h k b e l = place_low b.column (and_parts (is_place b.column) (is_place b.row) (each_of is_on_board w h k b e)).0
 none_high w m.Row h k b e l = place_low b.row (and_parts (is_place b.column) (is_place b.row) (each_of is_on_board w h k b e)).1
 none_high w m.Rank h k b e l = rank_low b.size
 none_high w m.Faces h k b e l = faces_low b.shape
+none_high w m.Rising h k b e l = rising_low b (each_of is_on_board w h k b e)
+none_high w m.Falling h k b e l = falling_low b (each_of is_on_board w h k b e)
 
 -- sets that are built block by block
 
@@ -96,22 +112,6 @@ set_extends w f g bits h same k l low = by_block (slice_get w k) refl
 
 -- what is made of the sets of those that measure less
 
-above_fact : (m n : ℕ) → not (nat_lt m (n + 1)) ≡ nat_lt n m
-above_fact m n = elim (cases_lt m (n + 1)) [
-  | inl less ↦ rw (lt-ltb m (n + 1) less) (sym (le-ltb n m (omega (arith, less))))
-  | inr more ↦ rw (le-ltb m (n + 1) more) (sym (lt-ltb n m (omega (arith, more))))
-]
-
-same_fact : (m n : ℕ) → (nat_lt m (n + 1) && not (nat_lt m n)) ≡ (m == n)
-same_fact m n = elim (cases_order m n) [
-  | inl e ↦ rw (lt-ltb m (n + 1) (omega (arith, e))) (rw (le-ltb m n (omega (arith, e))) (sym (eq-eqb m n e)))
-  | inr other ↦ by_side other
-]
-  where
-    by_side : (m < n) ⊎ (n < m) → (nat_lt m (n + 1) && not (nat_lt m n)) ≡ (m == n)
-    by_side (inl h) = rw (lt-ltb m (n + 1) (omega (arith, h))) (rw (lt-ltb m n h) (sym (ne_eqb m n (λ e. absurd (omega (arith, h, e))))))
-    by_side (inr h) = rw (le-ltb m (n + 1) (omega (arith, h))) (sym (ne_eqb m n (λ e. absurd (omega (arith, h, e)))))
-
 next_fact : (m n : ℕ) → (nat_lt m (n + 2) && not (nat_lt m (n - 1) || (m == n))) ≡ (apart m n == 1)
 next_fact m n = elim (cases_order m n) [
   | inl e ↦ rw (lt-ltb m (n + 2) (omega (arith, e))) (rw (le-ltb m (n - 1) (omega (arith, e))) (rw (eq-eqb m n e) (sym (ne_eqb (apart m n) 1 (λ d. absurd (omega (arith, e, d)))))))
@@ -132,20 +132,10 @@ next_fact m n = elim (cases_order m n) [
     by_side (inl h) = less h (cases_order (m + 1) n)
     by_side (inr h) = more h (cases_order (n + 1) m)
 
-pub above_set : (w : List Block) (f : Block → ℕ) (n a r : ℕ) → IsSetOf w (λ b. nat_lt (f b) (n + 1)) a → ((k : ℕ) → k < 64 → has r k ≡ not (has a k)) → IsSetOf w (λ b. nat_lt n (f b)) r
-above_set w f n a r h c k b e l = c k l ∙ ap not (h k b e l) ∙ above_fact (f b) n
-
-pub same_set : (w : List Block) (f : Block → ℕ) (n a b c r : ℕ) → IsSetOf w (λ x. nat_lt (f x) n) a → IsSetOf w (λ x. nat_lt (f x) (n + 1)) b → ((k : ℕ) → k < 64 → has c k ≡ not (has a k)) → ((k : ℕ) → has r k ≡ (has b k && has c k)) → IsSetOf w (λ x. f x == n) r
-same_set w f n a b c r h g lacks both k x e l =
-    both k ∙ ap₂ (λ p q. p && q) (g k x e l) (lacks k l ∙ ap not (h k x e l)) ∙ same_fact (f x) n
-
 pub next_set : (w : List Block) (f : Block → ℕ) (n most less same joint rest r : ℕ) → IsSetOf w (λ x. nat_lt (f x) (n + 2)) most → IsSetOf w (λ x. nat_lt (f x) (n - 1)) less → IsSetOf w (λ x. f x == n) same →
     ((k : ℕ) → has joint k ≡ (has less k || has same k)) → ((k : ℕ) → k < 64 → has rest k ≡ not (has joint k)) → ((k : ℕ) → has r k ≡ (has most k && has rest k)) → IsSetOf w (λ x. apart (f x) n == 1) r
 next_set w f n most less same joint rest r h g i either lacks both k x e l =
     both k ∙ ap₂ (λ p q. p && q) (h k x e l) (lacks k l ∙ ap not (either k ∙ ap₂ (λ p q. p || q) (g k x e l) (i k x e l))) ∙ next_fact (f x) n
-
-pub both_set : (w : List Block) (f g : Block → Bool) (a b r : ℕ) → IsSetOf w f a → IsSetOf w g b → ((k : ℕ) → has r k ≡ (has a k && has b k)) → IsSetOf w (λ x. f x && g x) r
-both_set w f g a b r h i both k x e l = both k ∙ ap₂ (λ p q. p && q) (h k x e l) (i k x e l)
 
 pub either_set : (w : List Block) (f g : Block → Bool) (a b r : ℕ) → IsSetOf w f a → IsSetOf w g b → ((k : ℕ) → has r k ≡ (has a k || has b k)) → IsSetOf w (λ x. f x || g x) r
 either_set w f g a b r h i either k x e l = either k ∙ ap₂ (λ p q. p || q) (h k x e l) (i k x e l)

@@ -1,8 +1,8 @@
 -- What terms stand for while a variable runs through the blocks.
 use Rattle.std.specs.Prelude.{ℕ, List, [], ◌∷◌, Option, Some, None}
 use Rattle.block_world.specs.declared.block.Block.{Block}
-use Rattle.block_world.specs.declared.extension.Claim.{Claim}
-use Rattle.block_world.specs.declared.extension.Claim.TheVariants.{One, Two, Three}
+use Rattle.block_world.specs.declared.claim.Claim.{Claim}
+use Rattle.block_world.specs.declared.claim.Claim.TheVariants.{One, Two, Three}
 use Rattle.block_world.specs.Worlds.{block_at}
 
 -- The number of the block of a term, where the variable stands for the block of the given number.

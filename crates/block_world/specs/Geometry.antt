@@ -70,10 +70,6 @@ on_rising b c = b.column + c.row == c.column + b.row
 abbrev pub on_falling : Block → Block → Bool
 on_falling b c = b.column + b.row == c.column + c.row
 
--- Both stand in one row, one column or one diagonal.
-abbrev pub are_aligned : Block → Block → Bool
-are_aligned b c = b.row == c.row || b.column == c.column || on_rising b c || on_falling b c
-
 -- All three stand in one row, one column or one diagonal, and the first strictly between the two others.
 abbrev pub is_between : Block → Block → Block → Bool
 is_between b c d =

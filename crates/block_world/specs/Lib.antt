@@ -9,7 +9,10 @@ pub mod Assignments
 pub mod Places
 pub mod Bound
 pub mod Truth
+pub mod Tables
 pub mod Claims
+pub mod Digits
+pub mod Referents
 pub mod Work
 pub mod Answers
 pub mod Lines

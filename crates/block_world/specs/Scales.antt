@@ -1,20 +1,29 @@
 -- Blocks by what is measured of them.
-use Rattle.std.specs.Prelude.{◌≡◌, ℕ, ◌+◌, ◌<◌, Bool, true, nat_lt, List, [], ◌∷◌, Some}
+use Rattle.std.specs.Prelude.{◌≡◌, ℕ, ◌+◌, ◌-◌, ◌<◌, Bool, true, nat_lt, ◌==◌, ◌&&◌, List, [], ◌∷◌, Some}
 use Rattle.std.specs.List.{slice_get}
 use Rattle.block_world.specs.declared.block.Block.{Block}
 use Rattle.block_world.specs.declared.block_set.BlockSet.{BlockSet}
 use Rattle.block_world.specs.declared.scales.Measure.{Measure}
-use Rattle.block_world.specs.declared.scales.Measure.TheVariants.{Column, Row, Rank, Faces}
+use Rattle.block_world.specs.declared.scales.Measure.TheVariants.{Column, Row, Rank, Faces, Rising, Falling}
 use Rattle.block_world.specs.declared.scales.Scales.{Scales}
 use Rattle.block_world.specs.BlockSets.{has}
-use Rattle.block_world.specs.Geometry.{faces, rank}
+use Rattle.block_world.specs.Geometry.{faces, rank, is_inside}
 
--- What is measured of a block.
+-- What is measured of a block. A diagonal that rises to the right has one difference of row and column, to which eight is
+-- added, and one that falls has one sum of them.
 abbrev pub measure_of : Measure → Block → ℕ
 measure_of Column b = b.column
 measure_of Row b = b.row
 measure_of Rank b = rank b.size
 measure_of Faces b = faces b.shape
+measure_of Rising b = b.row + 8 - b.column
+measure_of Falling b = b.column + b.row
+
+-- All three measure the same by one measure, so that they stand in one line, and the first lies between the two others by
+-- another measure.
+abbrev pub lies_along : Measure → Measure → Block → Block → Block → Bool
+lies_along line place b c d =
+    measure_of line b == measure_of line c && measure_of line b == measure_of line d && is_inside (measure_of place b) (measure_of place c) (measure_of place d)
 
 -- The property holds of each of the first 64 blocks of a world, by the place of the block and the block.
 abbrev pub OfEach : List Block → (ℕ → Block → Type 0) → Type 0
@@ -36,6 +45,8 @@ scale_at s Column = s.columns
 scale_at s Row = s.rows
 scale_at s Rank = s.ranks
 scale_at s Faces = s.faces
+scale_at s Rising = s.rising
+scale_at s Falling = s.falling
 
 -- Each scale begins with the set of the blocks that measure less than 0.
 abbrev pub AreScales : List Block → Scales → Type 0

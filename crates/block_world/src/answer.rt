@@ -8,7 +8,7 @@ ghost use Rattle.block_world.specs.Truth.{val};
 use crate::board::World;
 use crate::predicate::predicate_of;
 use crate::units::work;
-use crate::valuation::{Bound, value};
+use crate::valuation::value;
 use fol_core::{Ident, Sent, Term};
 use lists::Listed;
 use thiserror::Error;
@@ -56,7 +56,7 @@ pub fn truth(w: &World, s: &Sent) -> Result<bool, TruthFault>
     if work(w, s) > MOST_WORK {
         return Err(TruthFault::TooLarge);
     }
-    Ok(value(s, w, &[], &Bound::None))
+    Ok(value(s, w, &[]))
 }
 
 /// The value of the sentence, where the places say what its free variables stand for, and each name stands for the block
@@ -64,7 +64,7 @@ pub fn truth(w: &World, s: &Sent) -> Result<bool, TruthFault>
 pub fn truth_at(w: &World, s: &Sent, places: &Places) -> bool
     ensures value { result ≡ val w.now (given places.now (own_names w.now)) s.now }
 {
-    value(s, w, places.as_slice(), &Bound::None)
+    value(s, w, places.as_slice())
 }
 
 /// Whether each predicate in the sentence is one of the blocks language.

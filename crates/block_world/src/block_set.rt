@@ -26,6 +26,14 @@ impl BlockSet {
         }
     }
 
+    /// Whether the place is in the set.
+    pub(crate) fn has(self, place: u32) -> bool
+        requires { place < 64 }
+        ensures value { result ≡ has self.bits place }
+    {
+        (self.bits >> place) & 1 == 1
+    }
+
     /// The places that this set lacks.
     #[tactic(auto, using(crate::proofs::Sets::has_complement))]
     pub(crate) fn complement(self) -> BlockSet

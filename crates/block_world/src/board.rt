@@ -1,4 +1,4 @@
-ghost use Rattle.std.specs.Prelude.{◌≡◌, ◌≤◌, length};
+ghost use Rattle.std.specs.Prelude.{◌≡◌, ◌≤◌, true, length, IfSome};
 ghost use Rattle.block_world.specs.Geometry as geometry;
 ghost use Rattle.block_world.specs.Worlds as worlds;
 ghost use Rattle.block_world.specs.Worlds.{IsWorld};
@@ -75,6 +75,8 @@ impl World {
     /// The block of the number, counted from 1.
     pub(crate) fn block(&self, number: u32) -> Option<Block>
         ensures value { result ≡ worlds.block_at self.now number }
+        ensures world { IsWorld self.now }
+        ensures on_board { IfSome result (λ b. geometry.is_on_board b ≡ true) }
     {
         self.blocks
             .get((number as usize).saturating_sub(1))

@@ -2,22 +2,29 @@
 #![tactic(auto)]
 
 mod answer;
+mod atomic;
 mod betweenness;
 mod block;
 mod block_set;
 mod board;
+mod bound;
+mod claim;
+mod digits;
 mod extension;
+mod junction;
 mod line;
+mod pairs;
 mod predicate;
 mod print;
 mod reading;
 mod relations;
 mod scales;
 mod squares;
+mod table;
 #[cfg(test)]
 mod tests;
 #[cfg(test)]
-mod tests_of_sets;
+mod tests_of_tables;
 #[cfg(test)]
 mod tests_of_texts;
 mod units;

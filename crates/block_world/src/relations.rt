@@ -41,16 +41,16 @@ impl World {
         ensures value { IsSetOf self.now (λ b. spec.says_of_two predicate b c.now) result.bits }
     {
         match predicate {
-            Predicate::SameSize => self.same(Measure::Rank, c.size.rank()),
-            Predicate::SameShape => self.same(Measure::Faces, c.shape.faces()),
-            Predicate::SameRow => self.same(Measure::Row, c.row),
-            Predicate::SameCol => self.same(Measure::Column, c.column),
-            Predicate::Larger => self.above(Measure::Rank, c.size.rank()),
-            Predicate::Smaller => self.below(Measure::Rank, usize::from(c.size.rank())),
-            Predicate::LeftOf => self.below(Measure::Column, usize::from(c.column)),
-            Predicate::RightOf => self.above(Measure::Column, c.column),
-            Predicate::FrontOf => self.below(Measure::Row, usize::from(c.row)),
-            Predicate::BackOf => self.above(Measure::Row, c.row),
+            Predicate::SameSize => self.same(Measure::Rank, Measure::Rank.of(c)),
+            Predicate::SameShape => self.same(Measure::Faces, Measure::Faces.of(c)),
+            Predicate::SameRow => self.same(Measure::Row, Measure::Row.of(c)),
+            Predicate::SameCol => self.same(Measure::Column, Measure::Column.of(c)),
+            Predicate::Larger => self.above(Measure::Rank, Measure::Rank.of(c)),
+            Predicate::Smaller => self.below(Measure::Rank, usize::from(Measure::Rank.of(c))),
+            Predicate::LeftOf => self.below(Measure::Column, usize::from(Measure::Column.of(c))),
+            Predicate::RightOf => self.above(Measure::Column, Measure::Column.of(c)),
+            Predicate::FrontOf => self.below(Measure::Row, usize::from(Measure::Row.of(c))),
+            Predicate::BackOf => self.above(Measure::Row, Measure::Row.of(c)),
             Predicate::Adjoins => self.adjoining(c),
             _ => BlockSet::EMPTY,
         }
@@ -61,16 +61,16 @@ impl World {
         ensures value { IsSetOf self.now (λ b. share_side b c.now) result.bits }
     {
         let in_row = self
-            .same(Measure::Row, c.row)
-            .intersection(self.next_to(Measure::Column, c.column));
+            .same(Measure::Row, Measure::Row.of(c))
+            .intersection(self.next_to(Measure::Column, Measure::Column.of(c)));
         let in_column = self
-            .same(Measure::Column, c.column)
-            .intersection(self.next_to(Measure::Row, c.row));
+            .same(Measure::Column, Measure::Column.of(c))
+            .intersection(self.next_to(Measure::Row, Measure::Row.of(c)));
         in_row.union(in_column)
     }
 
     /// The blocks that measure less than the number.
-    fn below(&self, measure: Measure, number: usize) -> BlockSet
+    pub(crate) fn below(&self, measure: Measure, number: usize) -> BlockSet
         ensures value { IsSetOf self.now (λ b. nat_lt (measure_of measure b) number) result.bits }
     {
         match set_at(self.scale(measure), number) {
@@ -80,14 +80,14 @@ impl World {
     }
 
     /// The blocks that measure more than the number.
-    fn above(&self, measure: Measure, number: u8) -> BlockSet
+    pub(crate) fn above(&self, measure: Measure, number: u16) -> BlockSet
         ensures value { IsSetOf self.now (λ b. nat_lt number (measure_of measure b)) result.bits }
     {
         self.below(measure, usize::from(number) + 1).complement()
     }
 
     /// The blocks that measure just the number.
-    fn same(&self, measure: Measure, number: u8) -> BlockSet
+    pub(crate) fn same(&self, measure: Measure, number: u16) -> BlockSet
         ensures value { IsSetOf self.now (λ b. measure_of measure b == number) result.bits }
     {
         let less = self.below(measure, usize::from(number));
@@ -96,7 +96,7 @@ impl World {
     }
 
     /// The blocks that measure one more or one less than the number.
-    fn next_to(&self, measure: Measure, number: u8) -> BlockSet
+    fn next_to(&self, measure: Measure, number: u16) -> BlockSet
         ensures value { IsSetOf self.now (λ b. apart (measure_of measure b) number == 1) result.bits }
     {
         let most = self.below(measure, usize::from(number) + 2);

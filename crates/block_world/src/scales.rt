@@ -15,23 +15,29 @@ pub enum Measure {
     Rank,
     /// The number of faces of the shape.
     Faces,
+    /// The diagonal that rises to the right: how far the row lies above the column, and eight more.
+    Rising,
+    /// The diagonal that falls to the right: the sum of column and row.
+    Falling,
 }
 
 impl Measure {
-    fn of(self, b: &Block) -> u8
+    pub(crate) fn of(self, b: &Block) -> u16
         ensures value { result ≡ measure_of self b.now }
     {
         match self {
-            Measure::Column => b.column,
-            Measure::Row => b.row,
-            Measure::Rank => b.size.rank(),
-            Measure::Faces => b.shape.faces(),
+            Measure::Column => u16::from(b.column),
+            Measure::Row => u16::from(b.row),
+            Measure::Rank => u16::from(b.size.rank()),
+            Measure::Faces => u16::from(b.shape.faces()),
+            Measure::Rising => (u16::from(b.row) + 8).saturating_sub(u16::from(b.column)),
+            Measure::Falling => u16::from(b.column) + u16::from(b.row),
         }
     }
 }
 
-/// For each number from 0 to 13 the blocks that measure less; no block measures more than 12.
-type Scale = [BlockSet; 14];
+/// For each number from 0 to 16 the blocks that measure less; no block measures more than 16.
+type Scale = [BlockSet; 17];
 
 /// The blocks of a world by what they measure.
 #[derive(Clone, Copy, Debug)]
@@ -40,6 +46,8 @@ pub struct Scales {
     rows: Scale,
     ranks: Scale,
     faces: Scale,
+    rising: Scale,
+    falling: Scale,
 }
 
 impl Scales {
@@ -53,6 +61,8 @@ impl Scales {
             rows: scale_of(blocks, Measure::Row),
             ranks: scale_of(blocks, Measure::Rank),
             faces: scale_of(blocks, Measure::Faces),
+            rising: scale_of(blocks, Measure::Rising),
+            falling: scale_of(blocks, Measure::Falling),
         }
     }
 
@@ -65,6 +75,8 @@ impl Scales {
             Measure::Row => &self.rows,
             Measure::Rank => &self.ranks,
             Measure::Faces => &self.faces,
+            Measure::Rising => &self.rising,
+            Measure::Falling => &self.falling,
         }
     }
 }
@@ -96,11 +108,14 @@ fn scale_of(blocks: &[Block], measure: Measure) -> Scale
         below(blocks, measure, 11),
         below(blocks, measure, 12),
         below(blocks, measure, 13),
+        below(blocks, measure, 14),
+        below(blocks, measure, 15),
+        below(blocks, measure, 16),
     ]
 }
 
 /// The blocks that measure less than the number.
-fn below(blocks: &[Block], measure: Measure, number: u8) -> BlockSet
+fn below(blocks: &[Block], measure: Measure, number: u16) -> BlockSet
     requires few { length blocks.now ≤ 64 }
     ensures value { IsSetOf blocks.now (λ b. nat_lt (measure_of measure b) number) result.bits }
 {

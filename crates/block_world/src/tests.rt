@@ -8,7 +8,7 @@ use std::test::*;
 const LONGEST: usize = 4000;
 
 /// The sentence of a text.
-fn sentence(alloc: Global, text: &[u8]) -> Result<Sent, AllocError> {
+pub(crate) fn sentence(alloc: Global, text: &[u8]) -> Result<Sent, AllocError> {
     if text.len() > LONGEST {
         return Err(AllocError);
     }

@@ -31,7 +31,16 @@ returns c = record {
                             c.below-13.ensures.value,
                             (
                               c.below-14.ensures.value,
-                              none_high c.args.blocks.now c.args.measure c.requires.on_board,
+                              (
+                                c.below-15.ensures.value,
+                                (
+                                  c.below-16.ensures.value,
+                                  (
+                                    c.below-17.ensures.value,
+                                    none_high c.args.blocks.now c.args.measure c.requires.on_board,
+                                  ),
+                                ),
+                              ),
                             ),
                           ),
                         ),

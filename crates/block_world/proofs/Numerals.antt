@@ -1,0 +1,12 @@
+-- The case of a row: a numeral of two digits.
+use Rattle.std.proofs.Common.{◌≡◌, ℕ, ◌<◌, ap, ◌∙◌, div-one, mod-eq_of_lt}
+use Rattle.std.specs.Prelude.{◌%◌, ◌/◌}
+use Rattle.std.proofs.lemmas.Nat.{div-mul-add, mod-mul-add, mod_below}
+use Rattle.block_world.specs.declared.digits.Digits.{Digits}
+use Rattle.block_world.specs.Digits.{case_of, digit_of}
+
+pub low_of_case : (n : ℕ) (d : Digits) (r : ℕ) → 0 < n → digit_of n 1 (case_of n d r) ≡ digit_of n d.low r
+low_of_case n d r some = ap (λ c. c % n) (div-one (case_of n d r)) ∙ mod-mul-add (digit_of n d.high r) n (digit_of n d.low r) (mod_below (r / d.low) n some)
+
+pub high_of_case : (n : ℕ) (d : Digits) (r : ℕ) → 0 < n → digit_of n n (case_of n d r) ≡ digit_of n d.high r
+high_of_case n d r some = ap (λ q. q % n) (div-mul-add (digit_of n d.high r) n (digit_of n d.low r) (mod_below (r / d.low) n some)) ∙ mod-eq_of_lt (mod_below (r / d.high) n some)

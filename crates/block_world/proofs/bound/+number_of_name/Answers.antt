@@ -1,0 +1,9 @@
+use Rattle.std.proofs.Common.{◌/◌, length, ◌∙◌}
+use Rattle.block_world.proofs.Standings.{name_past_one, name_past_digit}
+use Rattle.block_world.proofs.bound.+number_of_name.Goals as goal
+
+pub returns-in-One : goal.returns-in-One
+returns-in-One t c = record { value = λ r k. c.number_of_name.ensures.value r k ∙ name_past_one c.args.world.now c.args.bound.now c.in-One.rest _ _ c.args.n.now r k c.in-One.is }
+
+pub returns-in-ByRow : goal.returns-in-ByRow
+returns-in-ByRow t c = record { value = λ r k. c.number_of_name-in-ByRow.ensures.value (r / length c.args.world.now) k ∙ name_past_digit c.args.world.now c.args.bound.now c.in-ByRow.rest _ c.args.n.now r k c.in-ByRow.is }

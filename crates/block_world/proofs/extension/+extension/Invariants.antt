@@ -1,0 +1,13 @@
+use Rattle.std.proofs.Common.{take}
+use Rattle.block_world.specs.Assignments.{put}
+use Rattle.block_world.specs.Bound.{standing}
+use Rattle.block_world.specs.Tables.{AreExtensions, joined}
+use Rattle.block_world.specs.Truth.{val}
+use Rattle.block_world.specs.Worlds.{numbers}
+use Rattle.block_world.proofs.extension.+extension.Given as goal
+
+abbrev pub invariant-extend_joined-loop-part : goal.invariant-extend_joined-loop-part
+invariant-extend_joined-loop-part l = AreExtensions l.world l.rows (λ r k. joined l.junction (val l.world (standing l.bound l.world r k)) (take l.part-index l.parts)) l.table
+
+abbrev pub invariant-extend_by_turns-loop-before : goal.invariant-extend_by_turns-loop-before
+invariant-extend_by_turns-loop-before l = AreExtensions l.world l.rows (λ r k. joined l.junction (λ m. val l.world (put l.x m (standing l.bound l.world r k)) l.part) (take l.before (numbers l.world))) l.table

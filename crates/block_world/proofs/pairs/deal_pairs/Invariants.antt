@@ -1,0 +1,10 @@
+use Rattle.std.proofs.Common.{◌≡◌, ◌<◌, ℕ, length}
+use Rattle.block_world.specs.BlockSets.{has}
+use Rattle.block_world.specs.Digits.{digit_of}
+use Rattle.block_world.specs.Tables.{bits_in}
+use Rattle.block_world.proofs.Filling.{AreFilled}
+use Rattle.block_world.proofs.pairs.deal_pairs.Given as goal
+
+abbrev pub invariant-loop-row : goal.invariant-loop-row
+invariant-loop-row l =
+    AreFilled (λ r bits. (k : ℕ) → k < 64 → has bits k ≡ has (bits_in l.sets (digit_of (length l.world) l.second r)) (digit_of (length l.world) l.first r)) l.fn.table l.row l.table

@@ -1,0 +1,53 @@
+-- Tables of sets of blocks, and the ways to join values to one.
+use Rattle.std.specs.Prelude.{◌≡◌, ℕ, ◌+◌, ◌<◌, Bool, true, false, not, ◌&&◌, ◌||◌, List, get_or}
+use Rattle.std.specs.List.{list_all, list_any, range_with_len}
+use Rattle.block_world.specs.declared.block.Block.{Block}
+use Rattle.block_world.specs.declared.junction.Connective.{Connective}
+use Rattle.block_world.specs.declared.junction.Connective.TheVariants.{And, Or, If, Iff}
+use Rattle.block_world.specs.declared.junction.Junction.{Junction}
+use Rattle.block_world.specs.declared.junction.Junction.TheVariants.{Every, Any}
+use Rattle.block_world.specs.declared.table.Table.{Table}
+use Rattle.block_world.specs.BlockSets.{has, IsExtension}
+use Rattle.block_world.specs.Truth.{are_alike}
+
+-- The bits of the set in a row.
+abbrev pub bits_in : Table → ℕ → ℕ
+bits_in t r = (get_or t.rows r (record { bits = 0 })).bits
+
+-- What a connective makes of two values.
+abbrev pub connect : Connective → Bool → Bool → Bool
+connect And b c = b && c
+connect Or b c = b || c
+connect If b c = not b || c
+connect Iff b c = are_alike b c
+
+-- What a junction makes of two values.
+abbrev pub join_two : Junction → Bool → Bool → Bool
+join_two Every b c = b && c
+join_two Any b c = b || c
+
+-- What a junction makes of no values.
+abbrev pub of_none : Junction → Bool
+of_none Every = true
+of_none Any = false
+
+-- Whether a property holds of every listed thing, or of any.
+abbrev pub joined : {X : Type 0} → Junction → (X → Bool) → List X → Bool
+joined Every f xs = list_all f xs
+joined Any f xs = list_any f xs
+
+-- Each of the first rows, so many, is the extension of its function.
+abbrev pub AreExtensions : List Block → ℕ → (ℕ → ℕ → Bool) → Table → Type 0
+AreExtensions w rows f t = (r : ℕ) → r < rows → IsExtension w (f r) (bits_in t r)
+
+-- The set has what a connective makes of two sets, for each of the 64 places.
+abbrev pub IsJoin : Connective → ℕ → ℕ → ℕ → Type 0
+IsJoin c left right bits = (k : ℕ) → k < 64 → has bits k ≡ connect c (has left k) (has right k)
+
+-- The set has what the other lacks, of the 64 places.
+abbrev pub IsComplement : ℕ → ℕ → Type 0
+IsComplement other bits = (k : ℕ) → k < 64 → has bits k ≡ not (has other k)
+
+-- The set has what a junction makes of a group of rows, so many from the first one.
+abbrev pub IsGroup : Junction → Table → ℕ → ℕ → ℕ → Type 0
+IsGroup j t first count bits = (k : ℕ) → k < 64 → has bits k ≡ joined j (λ m. has (bits_in t (first + m)) k) (range_with_len 0 count)

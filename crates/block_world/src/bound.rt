@@ -1,0 +1,150 @@
+ghost use Rattle.std.specs.Prelude.{◌≡◌, ◌<◌, ◌/◌, ℕ, length, if◌then◌else◌};
+ghost use Rattle.std.specs.Str.{bytes_eq};
+ghost use Rattle.fol_core.specs.declared.sent.Term.TheVariants as terms;
+ghost use Rattle.block_world.specs.Assignments.{number_at, own_names};
+ghost use Rattle.block_world.specs.Bound.{standing};
+ghost use Rattle.block_world.specs.Places.{given};
+ghost use Rattle.block_world.specs.Digits.{number_by};
+
+use crate::answer::Place;
+use crate::board::{World, block_count};
+use crate::digits::Referent;
+use fol_core::{Ident, Term, same_ident};
+
+/// The variables of the quantifiers around a place in a sentence, the innermost first.
+///
+/// While the blocks for which a sentence is true are found, the variable of the outermost quantifier runs through all blocks at
+/// once, and those of the next ones stand for other blocks from row to row of a table: a row is a numeral, written in as many
+/// digits as there are blocks, of which the last digit is for the innermost of these variables.
+#[derive(Drop)]
+pub enum Bound<'a> {
+    /// The variable of the outermost quantifier, with the places that are given.
+    Each(&'a Ident, &'a [Place]),
+    /// A variable that stands for the block of the number.
+    One(&'a Ident, u32, &'a Bound<'a>),
+    /// A variable that stands for the block of the row's last digit. What is around it has the row without that digit.
+    ByRow(&'a Ident, &'a Bound<'a>),
+}
+
+/// What the term stands for.
+pub(crate) fn referent_of(t: &Term, world: &World, bound: &Bound<'_>) -> Referent
+    ensures value { (r k : ℕ) → r < 256 → number_by (length world.now) result r k ≡ number_at (standing bound.now world.now r k) t.now }
+{
+    match t {
+        Term::Var(x) => referent_of_variable(x, world, bound, 1),
+        Term::Name(n) => Referent::One(number_of_name(n, world, bound)),
+    }
+}
+
+/// What the variable stands for, where the rows of the bound variables are those of a table without their last digits, and
+/// where the last digit left has this value where it is a one.
+fn referent_of_variable(x: &Ident, world: &World, bound: &Bound<'_>, stride: u32) -> Referent
+    ensures value { (r k : ℕ) → r < 256 → number_by (length world.now) result r k ≡ number_at (standing bound.now world.now (r / stride) k) (terms.Var x.now) }
+{
+    match bound {
+        Bound::Each(y, places) => {
+            if is_same(y, x) {
+                Referent::Each
+            } else {
+                Referent::One(number_of_place(x, world, places))
+            }
+        }
+        Bound::One(y, number, rest) => {
+            if is_same(y, x) {
+                Referent::One(*number)
+            } else {
+                referent_of_variable(x, world, rest, stride)
+            }
+        }
+        Bound::ByRow(y, rest) => {
+            if is_same(y, x) {
+                Referent::ByRow(stride)
+            } else {
+                referent_of_variable(x, world, rest, stride.saturating_mul(block_count(world)))
+            }
+        }
+    }
+}
+
+/// Whether both are one variable. Most differ in their last letters, which are looked at first.
+fn is_same(x: &Ident, y: &Ident) -> bool
+    ensures value { result ≡ bytes_eq x.now y.now }
+{
+    match (x.as_slice(), y.as_slice()) {
+        ([.., a], [.., b]) if a != b => false,
+        _ => same_ident(x, y),
+    }
+}
+
+/// The number of the block that has the name, for which no quantifier and no place stands.
+fn number_of_name(n: &Ident, world: &World, bound: &Bound<'_>) -> u32
+    ensures value { (r k : ℕ) → result ≡ number_at (standing bound.now world.now r k) (terms.Name n.now) }
+{
+    match bound {
+        Bound::Each(_, places) => number_past_places(n, world, places),
+        Bound::One(_, _, rest) => number_of_name(n, world, rest),
+        Bound::ByRow(_, rest) => number_of_name(n, world, rest),
+    }
+}
+
+/// The number of the block that the term stands for, where no quantifier is around it.
+pub(crate) fn number(t: &Term, world: &World, places: &[Place]) -> u32
+    ensures value { result ≡ number_at (given places.now (own_names world.now)) t.now }
+{
+    match t {
+        Term::Var(x) => number_of_place(x, world, places),
+        Term::Name(n) => number_past_places(n, world, places),
+    }
+}
+
+/// The number that is given for the variable; 1 where none is.
+fn number_of_place(x: &Ident, world: &World, places: &[Place]) -> u32
+    ensures value { result ≡ number_at (given places.now (own_names world.now)) (terms.Var x.now) }
+{
+    let mut number = 1;
+    for place in places {
+        number = latest(place, x, number);
+    }
+    number
+}
+
+/// The number that the place gives for the variable, and else the one before.
+fn latest(place: &Place, x: &Ident, before: u32) -> u32
+    ensures value { result ≡ (if bytes_eq place.now.variable x.now then place.now.block else before) }
+{
+    if same_ident(&place.variable, x) {
+        place.block
+    } else {
+        before
+    }
+}
+
+/// The number of the block that has the name, for which no place stands.
+fn number_past_places(n: &Ident, world: &World, places: &[Place]) -> u32
+    ensures value { result ≡ number_at (given places.now (own_names world.now)) (terms.Name n.now) }
+{
+    let _ = places;
+    number_of_bearer(n, world)
+}
+
+/// The number of the block that has the name; 1 where none has it.
+fn number_of_bearer(n: &Ident, world: &World) -> u32
+    ensures value { result ≡ number_at (own_names world.now) (terms.Name n.now) }
+{
+    let name = n.as_slice();
+    if b"a".as_slice() == name {
+        world.bearer(b'a')
+    } else if b"b".as_slice() == name {
+        world.bearer(b'b')
+    } else if b"c".as_slice() == name {
+        world.bearer(b'c')
+    } else if b"d".as_slice() == name {
+        world.bearer(b'd')
+    } else if b"e".as_slice() == name {
+        world.bearer(b'e')
+    } else if b"f".as_slice() == name {
+        world.bearer(b'f')
+    } else {
+        1
+    }
+}

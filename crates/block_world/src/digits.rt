@@ -1,0 +1,117 @@
+ghost use Rattle.std.specs.Prelude.{◌≡◌, ◌<◌, ◌≤◌, ℕ, IfSome};
+ghost use Rattle.block_world.specs.Claims.{number_in};
+ghost use Rattle.block_world.specs.Digits.{case_of, digit_of, number_by};
+
+/// What block a term stands for.
+#[derive(Clone, Copy)]
+pub enum Referent {
+    /// Each block in turn.
+    Each,
+    /// The block of the number.
+    One(u32),
+    /// The block of the row's digit of this value.
+    ByRow(u32),
+}
+
+impl Referent {
+    /// The number of the block in the row, of a world of so many blocks; none where each block is meant.
+    pub(crate) fn at(self, row: u32, count: u32) -> Option<u32>
+        requires some { 0 < count }
+        ensures value { (k : ℕ) → number_in result k ≡ number_by count self row k }
+    {
+        match self {
+            Referent::Each => None,
+            Referent::One(number) => Some(number),
+            Referent::ByRow(stride) => Some(digit(row, stride, count) + 1),
+        }
+    }
+}
+
+/// The digit of the row that has this value where it is a one; 0 where the value is.
+pub(crate) fn digit(row: u32, stride: u32, count: u32) -> u32
+    requires some { 0 < count }
+    ensures value { result ≡ digit_of count stride row }
+    ensures low { result < count }
+{
+    row.checked_div(stride).unwrap_or(0) % count
+}
+
+/// Two digits of a row, each by the value that it has where it is a one; 0 where it isn't there.
+///
+/// What an atomic sentence says depends on few digits: rows that have these in common are one case.
+#[derive(Clone, Copy)]
+pub struct Digits {
+    low: u32,
+    high: u32,
+}
+
+impl Digits {
+    pub(crate) const NONE: Digits = Digits { low: 0, high: 0 };
+
+    /// With the digit by which the term goes; where it is a third one, it is in place of the second.
+    pub(crate) fn with(self, referent: Referent) -> Digits {
+        match referent {
+            Referent::ByRow(stride) => self.with_digit(stride),
+            Referent::Each | Referent::One(_) => self,
+        }
+    }
+
+    fn with_digit(self, stride: u32) -> Digits {
+        if self.low == 0 {
+            Digits {
+                low: stride,
+                high: self.high,
+            }
+        } else if self.low == stride {
+            self
+        } else {
+            Digits {
+                low: self.low,
+                high: stride,
+            }
+        }
+    }
+
+    /// How many cases there are.
+    pub(crate) fn cases(self, count: u32) -> u32
+        requires some { 0 < count }
+        requires few { count ≤ 64 }
+        ensures value { (r : ℕ) → case_of count self r < result }
+    {
+        if self.high != 0 {
+            count * count
+        } else if self.low != 0 {
+            count
+        } else {
+            1
+        }
+    }
+
+    /// The case of the row.
+    pub(crate) fn case(self, row: u32, count: u32) -> u32
+        requires some { 0 < count }
+        requires few { count ≤ 64 }
+        ensures value { result ≡ case_of count self row }
+    {
+        digit(row, self.high, count) * count + digit(row, self.low, count)
+    }
+
+    /// What the term stands for, where the cases are the rows; none where it goes by another digit.
+    pub(crate) fn by_case(self, referent: Referent, count: u32) -> Option<Referent>
+        requires some { 0 < count }
+        ensures value { IfSome result (λ s. (r k : ℕ) → number_by count s (case_of count self r) k ≡ number_by count referent r k) }
+    {
+        match referent {
+            Referent::ByRow(stride) => {
+                if stride == self.low {
+                    Some(Referent::ByRow(1))
+                } else if stride == self.high {
+                    Some(Referent::ByRow(count))
+                } else {
+                    None
+                }
+            }
+            Referent::Each | Referent::One(_) => Some(referent),
+        }
+    }
+}

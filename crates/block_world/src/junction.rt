@@ -1,0 +1,60 @@
+ghost use Rattle.std.specs.Prelude.{◌≡◌, ◌<◌, ℕ};
+ghost use Rattle.block_world.specs.BlockSets.{has};
+ghost use Rattle.block_world.specs.Tables as tables;
+
+use crate::block_set::BlockSet;
+
+/// How many values are joined to one.
+#[derive(Clone, Copy)]
+pub enum Junction {
+    /// By whether every one is true.
+    Every,
+    /// By whether any is true.
+    Any,
+}
+
+impl Junction {
+    /// What is made of no values, for each block.
+    #[tactic(auto, using(crate::proofs::Sets::full_has, crate::proofs::Sets::empty_has))]
+    pub(crate) fn of_none(self) -> BlockSet
+        ensures value { (k : ℕ) → k < 64 → has result.bits k ≡ tables.of_none self }
+    {
+        match self {
+            Junction::Every => BlockSet::FULL,
+            Junction::Any => BlockSet::EMPTY,
+        }
+    }
+
+    /// What is made of two values.
+    pub(crate) fn connective(self) -> Connective
+        ensures value { tables.connect result ≡ tables.join_two self }
+    {
+        match self {
+            Junction::Every => Connective::And,
+            Junction::Any => Connective::Or,
+        }
+    }
+}
+
+/// How two values are joined to one.
+#[derive(Clone, Copy)]
+pub enum Connective {
+    And,
+    Or,
+    If,
+    Iff,
+}
+
+impl Connective {
+    /// The blocks of which the two values, joined so, are true.
+    pub(crate) fn join(self, left: BlockSet, right: BlockSet) -> BlockSet
+        ensures value { tables.IsJoin self left.bits right.bits result.bits }
+    {
+        match self {
+            Connective::And => left.intersection(right),
+            Connective::Or => left.union(right),
+            Connective::If => left.complement().union(right),
+            Connective::Iff => left.symmetric_difference(right).complement(),
+        }
+    }
+}
