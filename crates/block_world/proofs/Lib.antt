@@ -1,4 +1,5 @@
 pub mod Bearing
+pub mod Dealing
 pub mod Ending
 pub mod Forms
 pub mod Extending

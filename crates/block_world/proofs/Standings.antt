@@ -26,13 +26,13 @@ pub name_past_digit : (w : List Block) (bound : Bound) (rest : Bor Bound) (x : B
 name_past_digit w bound rest x n r k e = sym (ap (λ o. number_at (standing o w r k) (t.Name n)) e ∙ ap (λ a. number_at a (t.Name n)) (standing_by_row x rest w r k))
 
 -- A row without its last digits, and without one more. A stride that is too great for its type leaves nothing of a row.
-saturated : (r s n m : ℕ) → r < 256 → m ≡ min (s * n) 4294967295 → r / s / n ≡ r / m
+saturated : (r s n m : ℕ) → r < 512 → m ≡ min (s * n) 4294967295 → r / s / n ≡ r / m
 saturated r s n m low e = elim (cases_lt (s * n) 4294967296) [
   | inl less ↦ div-div-eq-div-mul r s n ∙ ap (λ o. r / o) (omega (arith, e, less))
   | inr more ↦ div-div-eq-div-mul r s n ∙ div-eq_of_lt (omega (arith, low, more)) ∙ sym (div-eq_of_lt (omega (arith, low, e, more)))
 ]
 
-pub past_digit : (w : List Block) (bound : Bound) (rest : Bor Bound) (y : Bor Word) (x : Word) (r s m k : ℕ) → r < 256 → bound ≡ b.ByRow y rest → m ≡ min (s * length w) 4294967295 → bytes_eq y.now x ≡ false →
+pub past_digit : (w : List Block) (bound : Bound) (rest : Bor Bound) (y : Bor Word) (x : Word) (r s m k : ℕ) → r < 512 → bound ≡ b.ByRow y rest → m ≡ min (s * length w) 4294967295 → bytes_eq y.now x ≡ false →
     number_at (standing rest.now w (r / m) k) (t.Var x) ≡ number_at (standing bound w (r / s) k) (t.Var x)
 past_digit w bound rest y x r s m k low e i apart =
     sym (ap (λ o. number_at (standing o w (r / s) k) (t.Var x)) e ∙ ap (λ a. number_at a (t.Var x)) (standing_by_row y rest w (r / s) k)

@@ -57,7 +57,7 @@ impl Referents {
 
 /// What the terms stand for; none where no predicate has so many places.
 pub(crate) fn referents_of(terms: &[Term], world: &World, bound: &Bound<'_>) -> Option<Referents>
-    ensures some { IfSome result (λ s. (r k : ℕ) → r < 256 → blocks_by world.now s r k ≡ map (stands_for world.now (standing bound.now world.now r k)) terms.now) }
+    ensures some { IfSome result (λ s. (r k : ℕ) → r < 512 → blocks_by world.now s r k ≡ map (stands_for world.now (standing bound.now world.now r k)) terms.now) }
     ensures none { result ≡ None → (o : Option Predicated) (f : SentTerm → Option Standing) → predicates.is_true_of o (map f terms.now) ≡ false }
 {
     match terms {
@@ -107,7 +107,7 @@ impl Atomic {
     /// The blocks for which it is true, in each of the first rows.
     pub(crate) fn extend(self, table: &mut Table, world: &World, rows: u32)
         requires some { 0 < length world.now }
-        requires few { rows ≤ 256 }
+        requires few { rows ≤ 512 }
         ensures value { AreExtensions world.now rows (value_by world.now self) table.new }
     {
         match self {
@@ -126,7 +126,7 @@ impl Atomic {
     /// The same, found once for each case of the digits by which its terms go.
     fn extend_cases(self, table: &mut Table, world: &World, rows: u32)
         requires some { 0 < length world.now }
-        requires few { rows ≤ 256 }
+        requires few { rows ≤ 512 }
         ensures value { AreExtensions world.now rows (value_by world.now self) table.new }
     {
         let digits = self.digits();
@@ -148,7 +148,7 @@ impl Atomic {
     /// The same, found for each row.
     fn extend_each(self, table: &mut Table, world: &World, rows: u32)
         requires some { 0 < length world.now }
-        requires few { rows ≤ 256 }
+        requires few { rows ≤ 512 }
         ensures value { AreExtensions world.now rows (value_by world.now self) table.new }
     {
         for row in 0..rows {
@@ -199,8 +199,8 @@ impl Atomic {
 /// Writes into each of the first rows the set of its case.
 fn deal(table: &mut Table, sets: &Table, digits: Digits, world: &World, rows: u32)
     requires some { 0 < length world.now }
-    requires few { rows ≤ 256 }
-    requires cases { (r : ℕ) → case_of (length world.now) digits r < 256 }
+    requires few { rows ≤ 512 }
+    requires cases { (r : ℕ) → case_of (length world.now) digits r < 512 }
     ensures value { (r : ℕ) → r < rows → bits_in table.new r ≡ bits_in sets.now (case_of (length world.now) digits r) }
 {
     let count = block_count(world);

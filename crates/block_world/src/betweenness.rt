@@ -1,13 +1,13 @@
-ghost use Rattle.std.specs.Prelude.{◌≡◌, true, [], ◌∷◌, Some};
+ghost use Rattle.std.specs.Prelude.{◌≡◌, true, [], ◌∷◌, IfSome, None, Some};
 ghost use Rattle.block_world.specs.Geometry.{is_inside, is_on_board, is_between};
 ghost use Rattle.block_world.specs.Predicates.{says, says_of_three};
-ghost use Rattle.block_world.specs.Scales.{measure_of, lies_along, IsSetOf};
+ghost use Rattle.block_world.specs.Scales.{measure_of, IsLineOf, IsSetOf, StandInNoLine};
 ghost use Rattle.block_world.specs.Worlds.{block_at, IsWorld};
 
 use crate::block::Block;
 use crate::block_set::BlockSet;
 use crate::board::World;
-use crate::predicate::Predicate;
+use crate::predicate::{Predicate, on_falling, on_rising};
 use crate::scales::Measure;
 
 impl World {
@@ -66,10 +66,12 @@ impl World {
         requires second { is_on_board d.now ≡ true }
         ensures value { IsSetOf self.now (λ b. is_between b c.now d.now) result.bits }
     {
-        self.between_along(Measure::Row, Measure::Column, c, d)
-            .union(self.between_along(Measure::Column, Measure::Row, c, d))
-            .union(self.between_along(Measure::Rising, Measure::Column, c, d))
-            .union(self.between_along(Measure::Falling, Measure::Column, c, d))
+        match line_of(c, d) {
+            Some(Line { line, place }) => self
+                .same(line, line.of(c))
+                .intersection(self.inside(place, place.of(c), place.of(d))),
+            None => BlockSet::EMPTY,
+        }
     }
 
     /// The blocks for which the first block stands between them and the second: none where these aren't in one line.
@@ -79,43 +81,30 @@ impl World {
         requires second { is_on_board d.now ≡ true }
         ensures value { IsSetOf self.now (λ c. is_between b.now c d.now) result.bits }
     {
-        self.behind_along(Measure::Row, Measure::Column, b, d)
-            .union(self.behind_along(Measure::Column, Measure::Row, b, d))
-            .union(self.behind_along(Measure::Rising, Measure::Column, b, d))
-            .union(self.behind_along(Measure::Falling, Measure::Column, b, d))
-    }
-
-    /// The blocks that stand in one line with both, which is told by what it measures, and between them by another measure.
-    fn between_along(&self, line: Measure, place: Measure, c: &Block, d: &Block) -> BlockSet
-        ensures value { IsSetOf self.now (λ b. lies_along line place b c.now d.now) result.bits }
-    {
-        if line.of(c) != line.of(d) {
-            return BlockSet::EMPTY;
+        match line_of(b, d) {
+            Some(Line { line, place }) => self
+                .same(line, line.of(b))
+                .intersection(self.beyond(place, place.of(b), place.of(d))),
+            None => BlockSet::EMPTY,
         }
-        let one = place.of(c);
-        let other = place.of(d);
-        let upward = self
-            .above(place, one)
-            .intersection(self.below(place, usize::from(other)));
-        let downward = self
-            .above(place, other)
-            .intersection(self.below(place, usize::from(one)));
-        self.same(line, line.of(c))
-            .intersection(upward.union(downward))
     }
 
-    /// The blocks that stand in one line with both, and for which the first stands between them and the second.
-    fn behind_along(&self, line: Measure, place: Measure, b: &Block, d: &Block) -> BlockSet
-        ensures value { IsSetOf self.now (λ c. lies_along line place b.now c d.now) result.bits }
+    /// The blocks that measure something strictly between the numbers.
+    fn inside(&self, place: Measure, one: u16, other: u16) -> BlockSet
+        ensures value { IsSetOf self.now (λ b. is_inside (measure_of place b) one other) result.bits }
     {
-        if line.of(b) != line.of(d) {
-            return BlockSet::EMPTY;
+        if one < other {
+            self.above(place, one)
+                .intersection(self.below(place, usize::from(other)))
+        } else if other < one {
+            self.above(place, other)
+                .intersection(self.below(place, usize::from(one)))
+        } else {
+            BlockSet::EMPTY
         }
-        self.same(line, line.of(b))
-            .intersection(self.beyond(place, place.of(b), place.of(d)))
     }
 
-    /// The blocks for which the first number lies between theirs and the second.
+    /// The blocks for which the first number lies strictly between what they measure and the second.
     fn beyond(&self, place: Measure, one: u16, other: u16) -> BlockSet
         ensures value { IsSetOf self.now (λ c. is_inside one (measure_of place c) other) result.bits }
     {
@@ -127,4 +116,32 @@ impl World {
             BlockSet::EMPTY
         }
     }
+}
+
+/// A line on the board: by what the blocks in it measure the same, and by what their places in it are measured.
+#[derive(Clone, Copy)]
+pub struct Line {
+    line: Measure,
+    place: Measure,
+}
+
+/// The line in which both stand, if there is one. A block that stands between others stands in their line.
+fn line_of(b: &Block, c: &Block) -> Option<Line>
+    requires first { is_on_board b.now ≡ true }
+    requires second { is_on_board c.now ≡ true }
+    ensures some { IfSome result (λ l. IsLineOf l.line l.place b.now c.now) }
+    ensures none { result ≡ None → StandInNoLine b.now c.now }
+{
+    let (line, place) = if b.row == c.row {
+        (Measure::Row, Measure::Column)
+    } else if b.column == c.column {
+        (Measure::Column, Measure::Row)
+    } else if on_rising(b, c) {
+        (Measure::Rising, Measure::Column)
+    } else if on_falling(b, c) {
+        (Measure::Falling, Measure::Column)
+    } else {
+        return None;
+    };
+    Some(Line { line, place })
 }

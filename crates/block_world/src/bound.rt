@@ -28,7 +28,7 @@ pub enum Bound<'a> {
 
 /// What the term stands for.
 pub(crate) fn referent_of(t: &Term, world: &World, bound: &Bound<'_>) -> Referent
-    ensures value { (r k : ℕ) → r < 256 → number_by (length world.now) result r k ≡ number_at (standing bound.now world.now r k) t.now }
+    ensures value { (r k : ℕ) → r < 512 → number_by (length world.now) result r k ≡ number_at (standing bound.now world.now r k) t.now }
 {
     match t {
         Term::Var(x) => referent_of_variable(x, world, bound, 1),
@@ -39,40 +39,30 @@ pub(crate) fn referent_of(t: &Term, world: &World, bound: &Bound<'_>) -> Referen
 /// What the variable stands for, where the rows of the bound variables are those of a table without their last digits, and
 /// where the last digit left has this value where it is a one.
 fn referent_of_variable(x: &Ident, world: &World, bound: &Bound<'_>, stride: u32) -> Referent
-    ensures value { (r k : ℕ) → r < 256 → number_by (length world.now) result r k ≡ number_at (standing bound.now world.now (r / stride) k) (terms.Var x.now) }
+    ensures value { (r k : ℕ) → r < 512 → number_by (length world.now) result r k ≡ number_at (standing bound.now world.now (r / stride) k) (terms.Var x.now) }
 {
     match bound {
         Bound::Each(y, places) => {
-            if is_same(y, x) {
+            if same_ident(y, x) {
                 Referent::Each
             } else {
                 Referent::One(number_of_place(x, world, places))
             }
         }
         Bound::One(y, number, rest) => {
-            if is_same(y, x) {
+            if same_ident(y, x) {
                 Referent::One(*number)
             } else {
                 referent_of_variable(x, world, rest, stride)
             }
         }
         Bound::ByRow(y, rest) => {
-            if is_same(y, x) {
+            if same_ident(y, x) {
                 Referent::ByRow(stride)
             } else {
                 referent_of_variable(x, world, rest, stride.saturating_mul(block_count(world)))
             }
         }
-    }
-}
-
-/// Whether both are one variable. Most differ in their last letters, which are looked at first.
-fn is_same(x: &Ident, y: &Ident) -> bool
-    ensures value { result ≡ bytes_eq x.now y.now }
-{
-    match (x.as_slice(), y.as_slice()) {
-        ([.., a], [.., b]) if a != b => false,
-        _ => same_ident(x, y),
     }
 }
 

@@ -20,7 +20,7 @@ use fol_core::{Ident, Sent, Term};
 #[cycle(extension)]
 pub(crate) fn extend(table: &mut Table, s: &Sent, world: &World, bound: &Bound<'_>, rows: u32)
     requires some { 0 < length world.now }
-    requires few { rows ≤ 256 }
+    requires few { rows ≤ 512 }
     ensures value { AreExtensions world.now rows (λ r k. val world.now (standing bound.now world.now r k) s.now) table.new }
 {
     match s {
@@ -69,7 +69,7 @@ fn join_next(
     rows: u32,
 )
     requires some { 0 < length world.now }
-    requires few { rows ≤ 256 }
+    requires few { rows ≤ 512 }
     ensures value { (f : ℕ → ℕ → Bool) → AreExtensions world.now rows f table.old → AreExtensions world.now rows (λ r k. connect connective (f r k) (val world.now (standing bound.now world.now r k) s.now)) table.new }
 {
     let mut next = Table::EMPTY;
@@ -88,7 +88,7 @@ fn extend_joined(
     rows: u32,
 )
     requires some { 0 < length world.now }
-    requires few { rows ≤ 256 }
+    requires few { rows ≤ 512 }
     ensures value { AreExtensions world.now rows (λ r k. joined junction (val world.now (standing bound.now world.now r k)) parts.now) table.new }
 {
     let mut next = Table::EMPTY;
@@ -111,7 +111,7 @@ fn extend_quantified(
     rows: u32,
 )
     requires some { 0 < length world.now }
-    requires few { rows ≤ 256 }
+    requires few { rows ≤ 512 }
     ensures value { AreExtensions world.now rows (λ r k. joined junction (λ m. val world.now (put x.now m (standing bound.now world.now r k)) part.now) (numbers world.now)) table.new }
 {
     let count = block_count(world);
@@ -141,7 +141,7 @@ fn extend_by_turns(
     rows: u32,
 )
     requires some { 0 < length world.now }
-    requires few { rows ≤ 256 }
+    requires few { rows ≤ 512 }
     ensures value { AreExtensions world.now rows (λ r k. joined junction (λ m. val world.now (put x.now m (standing bound.now world.now r k)) part.now) (numbers world.now)) table.new }
 {
     let mut turn = Table::EMPTY;
@@ -168,7 +168,7 @@ fn extend_atom(
     rows: u32,
 )
     requires some { 0 < length world.now }
-    requires few { rows ≤ 256 }
+    requires few { rows ≤ 512 }
     ensures value { AreExtensions world.now rows (λ r k. predicates.is_true_of (predicates.predicate_of p.now) (map (stands_for world.now (standing bound.now world.now r k)) terms.now)) table.new }
 {
     let Some(predicate) = predicate_of(p.as_slice()) else {

@@ -23,7 +23,7 @@ pub(crate) fn extend_one(
     rows: u32,
 )
     requires some { 0 < length world.now }
-    requires few { rows ≤ 256 }
+    requires few { rows ≤ 512 }
     ensures value { AreExtensions world.now rows (value_by world.now (Says predicate (One s))) table.new }
 {
     match s {
@@ -46,7 +46,7 @@ pub(crate) fn extend_two(
     rows: u32,
 )
     requires some { 0 < length world.now }
-    requires few { rows ≤ 256 }
+    requires few { rows ≤ 512 }
     ensures value { AreExtensions world.now rows (value_by world.now (Says predicate (Two s t))) table.new }
 {
     match (s, t) {
@@ -84,24 +84,25 @@ pub(crate) fn extend_two(
     }
 }
 
-/// In each row the blocks that stand so to the one of the row's digit.
+/// In each row the blocks that stand so to the one of the row's digit. They are first written into the rows of the blocks, and
+/// then dealt out from the last row on, since no row has a digit that is greater than the row.
 fn deal_by_digit(table: &mut Table, predicate: Predicate, stride: u32, world: &World, rows: u32)
     requires some { 0 < length world.now }
-    requires few { rows ≤ 256 }
+    requires few { rows ≤ 512 }
     ensures value { AreExtensions world.now rows (value_by world.now (Says predicate (Two ref.Each (ref.ByRow stride)))) table.new }
 {
     let count = block_count(world);
-    let mut sets = Table::EMPTY;
-    relate(&mut sets, predicate, world);
-    for row in 0..rows {
-        table.put(row, sets.row(digit(row, stride, count)));
+    relate(table, predicate, world);
+    for done in 0..rows {
+        let row = rows - 1 - done;
+        table.put(row, table.row(digit(row, stride, count)));
     }
 }
 
 /// In each row all blocks or none: whether the block of the row's digit is in the set.
 fn deal_members(table: &mut Table, set: BlockSet, stride: u32, world: &World, rows: u32)
     requires some { 0 < length world.now }
-    requires few { rows ≤ 256 }
+    requires few { rows ≤ 512 }
     ensures value { (r : ℕ) → r < rows → (k : ℕ) → k < 64 → has (bits_in table.new r) k ≡ has set.bits (digit_of (length world.now) stride r) }
     ensures few { length world.now ≤ 64 }
 {
@@ -112,7 +113,8 @@ fn deal_members(table: &mut Table, set: BlockSet, stride: u32, world: &World, ro
     }
 }
 
-/// In each row all blocks or none: whether the block of the one digit stands so to that of the other.
+/// In each row all blocks or none: whether the block of the one digit stands so to that of the other. They are dealt out as
+/// above.
 fn deal_pairs(
     table: &mut Table,
     predicate: Predicate,
@@ -122,14 +124,14 @@ fn deal_pairs(
     rows: u32,
 )
     requires some { 0 < length world.now }
-    requires few { rows ≤ 256 }
+    requires few { rows ≤ 512 }
     ensures value { AreExtensions world.now rows (value_by world.now (Says predicate (Two (ref.ByRow first) (ref.ByRow second)))) table.new }
 {
     let count = block_count(world);
-    let mut sets = Table::EMPTY;
-    relate(&mut sets, predicate, world);
-    for row in 0..rows {
-        let set = sets.row(digit(row, second, count));
+    relate(table, predicate, world);
+    for done in 0..rows {
+        let row = rows - 1 - done;
+        let set = table.row(digit(row, second, count));
         table.put(
             row,
             BlockSet::all_or_none(set.has(digit(row, first, count))),

@@ -5,28 +5,28 @@ use crate::block_set::BlockSet;
 use crate::junction::{Connective, Junction};
 
 /// How many rows a table has.
-pub(crate) const ROWS: u32 = 256;
+pub(crate) const ROWS: u32 = 512;
 
 /// A set of blocks in each row, of which the first ones are in use, as many as is said.
 #[derive(Clone, Copy)]
 pub struct Table {
-    rows: [BlockSet; 256],
+    rows: [BlockSet; 512],
 }
 
 impl Table {
     pub(crate) const EMPTY: Table = Table {
-        rows: [BlockSet::EMPTY; 256],
+        rows: [BlockSet::EMPTY; 512],
     };
 
     pub(crate) fn row(&self, row: u32) -> BlockSet
-        requires { row < 256 }
+        requires { row < 512 }
         ensures value { result.bits ≡ bits_in self.now row }
     {
         self.rows[row as usize]
     }
 
     pub(crate) fn put(&mut self, row: u32, set: BlockSet)
-        requires { row < 256 }
+        requires { row < 512 }
         ensures here { bits_in self.new row ≡ set.bits }
         ensures elsewhere { (r : ℕ) → r ≢ row → bits_in self.new r ≡ bits_in self.old r }
     {
@@ -35,7 +35,7 @@ impl Table {
 
     /// The same set in each of the first rows.
     pub(crate) fn fill(&mut self, set: BlockSet, rows: u32)
-        requires { rows ≤ 256 }
+        requires { rows ≤ 512 }
         ensures value { (r : ℕ) → r < rows → bits_in self.new r ≡ set.bits }
     {
         for row in 0..rows {
@@ -45,7 +45,7 @@ impl Table {
 
     /// In each of the first rows what the set lacks.
     pub(crate) fn complement(&mut self, rows: u32)
-        requires { rows ≤ 256 }
+        requires { rows ≤ 512 }
         ensures value { (r : ℕ) → r < rows → IsComplement (bits_in self.old r) (bits_in self.new r) }
     {
         for row in 0..rows {
@@ -55,7 +55,7 @@ impl Table {
 
     /// In each of the first rows what the connective makes of the set and of that in the other table.
     pub(crate) fn join(&mut self, connective: Connective, other: &Table, rows: u32)
-        requires { rows ≤ 256 }
+        requires { rows ≤ 512 }
         ensures value { (r : ℕ) → r < rows → IsJoin connective (bits_in self.old r) (bits_in other.now r) (bits_in self.new r) }
     {
         for row in 0..rows {
@@ -65,7 +65,7 @@ impl Table {
 
     /// In each of the first rows what the junction makes of a group of rows, so many to a group, one group after the other.
     pub(crate) fn join_groups(&mut self, junction: Junction, rows: u32, count: u32)
-        requires few { rows * count ≤ 256 }
+        requires few { rows * count ≤ 512 }
         requires some { 0 < count }
         ensures value { (r : ℕ) → r < rows → IsGroup junction self.old (r * count) count (bits_in self.new r) }
     {
@@ -76,7 +76,7 @@ impl Table {
 
     /// What the junction makes of so many rows from the one of the number.
     fn joined(&self, junction: Junction, first: u32, count: u32) -> BlockSet
-        requires { first + count ≤ 256 }
+        requires { first + count ≤ 512 }
         ensures value { IsGroup junction self.now first count result.bits }
     {
         let mut set = junction.of_none();

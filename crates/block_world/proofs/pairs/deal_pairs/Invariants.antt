@@ -1,10 +1,16 @@
-use Rattle.std.proofs.Common.{◌≡◌, ◌<◌, ℕ, length}
-use Rattle.block_world.specs.BlockSets.{has}
-use Rattle.block_world.specs.Digits.{digit_of}
-use Rattle.block_world.specs.Tables.{bits_in}
-use Rattle.block_world.proofs.Filling.{AreFilled}
+use Rattle.std.proofs.Common.{◌<◌, length}
+use Rattle.std.specs.Prelude.{◌+◌, Some, [], ◌∷◌}
+use Rattle.block_world.specs.declared.atomic.Atomic.TheVariants.{Says}
+use Rattle.block_world.specs.declared.atomic.Referents.TheVariants.{Two}
+use Rattle.block_world.specs.declared.digits.Referent.TheVariants as ref
+use Rattle.block_world.specs.BlockSets.{IsExtension}
+use Rattle.block_world.specs.Predicates.{says}
+use Rattle.block_world.specs.Referents.{value_by}
+use Rattle.block_world.specs.Scales.{IsSetOf}
+use Rattle.block_world.specs.Worlds.{block_at}
+use Rattle.block_world.proofs.Dealing.{AreDealt}
 use Rattle.block_world.proofs.pairs.deal_pairs.Given as goal
 
-abbrev pub invariant-loop-row : goal.invariant-loop-row
-invariant-loop-row l =
-    AreFilled (λ r bits. (k : ℕ) → k < 64 → has bits k ≡ has (bits_in l.sets (digit_of (length l.world) l.second r)) (digit_of (length l.world) l.first r)) l.fn.table l.row l.table
+abbrev pub invariant-loop-done : goal.invariant-loop-done
+invariant-loop-done l =
+    AreDealt (λ r. IsExtension l.world (value_by l.world (Says l.fn.predicate (Two (ref.ByRow l.first) (ref.ByRow l.second))) r)) (λ r bits. r < length l.world → IsSetOf l.world (λ b. says l.fn.predicate (Some b ∷ block_at l.world (r + 1) ∷ [])) bits) l.rows l.done l.table
