@@ -1,11 +1,12 @@
 -- Tables that are written from the last row on, from what stands in the first rows.
-use Rattle.std.proofs.Common.{◌≡◌, ◌≢◌, ℕ, ◌+◌, ◌-◌, ◌<◌, ◌≤◌, subst, sym, arith, ◌⊎◌, inl, inr}
+use Rattle.std.proofs.Common.{◌≡◌, ◌≢◌, ℕ, ◌+◌, ◌-◌, ◌<◌, ◌≤◌, subst, sym, arith, inl, inr}
 use Rattle.std.specs.Prelude.{◌/◌}
 use Rattle.std.proofs.Math.Nat.{div-le_self, mod-le}
 use Rattle.std.proofs.lemmas.Bool.{cases_order}
 use Rattle.block_world.specs.declared.table.Table.{Table}
 use Rattle.block_world.specs.Digits.{digit_of}
 use Rattle.block_world.specs.Tables.{bits_in}
+use Rattle.block_world.proofs.Marking.{apart_by}
 
 -- Of so many rows the last ones, as many as are counted, have one property, and those before them still have another.
 pub record AreDealt (P Q : ℕ → ℕ → Type 0) (rows count : ℕ) (t : Table) : Type 0 where
@@ -24,10 +25,6 @@ more_dealt P Q rows count bits t u some h here elsewhere p = record {
   ];
   rest = λ r l. subst (Q r) (sym (elsewhere r (λ same. absurd (omega (arith, l, same, some))))) (h.rest r (omega (arith, l)));
 }
-  where
-    apart_by : (j n : ℕ) → j ≡ n → (j < n) ⊎ (n < j) → ⊥
-    apart_by j n same (inl h) = absurd (omega (arith, same, h))
-    apart_by j n same (inr h) = absurd (omega (arith, same, h))
 
 -- a digit of the row that is next is that of a row before those that are done
 pub digit_before : (n stride rows count : ℕ) → count < rows → digit_of n stride (rows - 1 - count) + count < rows

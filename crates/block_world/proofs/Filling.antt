@@ -1,8 +1,9 @@
 -- Tables that are written row by row.
-use Rattle.std.proofs.Common.{◌≡◌, ◌≢◌, ℕ, zero, suc, ◌+◌, ◌*◌, ◌<◌, ◌≤◌, refl, ◌∙◌, subst, sym, arith, mul-suc, ◌⊎◌, inl, inr}
+use Rattle.std.proofs.Common.{◌≡◌, ◌≢◌, ℕ, zero, suc, ◌+◌, ◌*◌, ◌<◌, ◌≤◌, refl, ◌∙◌, subst, sym, arith, mul-suc, inl, inr}
 use Rattle.std.proofs.lemmas.Bool.{cases_order}
 use Rattle.block_world.specs.declared.table.Table.{Table}
 use Rattle.block_world.specs.Tables.{bits_in}
+use Rattle.block_world.proofs.Marking.{apart_by}
 
 -- In the first rows, so many, the bits are as the property says, and the other rows are as they were.
 pub record AreFilled (P : ℕ → ℕ → Type 0) (old : Table) (count : ℕ) (new : Table) : Type 0 where
@@ -20,10 +21,6 @@ more_filled P old t u count bits h here elsewhere p = record {
   ];
   rest = λ r l. elsewhere r (λ same. absurd (omega (arith, l, same))) ∙ h.rest r (omega (arith, l));
 }
-  where
-    apart_by : (j n : ℕ) → j ≡ n → (j < n) ⊎ (n < j) → ⊥
-    apart_by j n same (inl h) = absurd (omega (arith, same, h))
-    apart_by j n same (inr h) = absurd (omega (arith, same, h))
 
 -- a group of rows doesn't begin before the row that is written from it
 pub not_before : (r n : ℕ) → 0 < n → r ≤ r * n

@@ -95,7 +95,7 @@ block_next w k = ap (slice_get w) (omega arith)
 pub block_read : (w : List Block) (k : ℕ) (d : Block) → k < length w → block_at w (k + 1) ≡ Some (get_or w k d)
 block_read w k d h = block_next w k ∙ slice_get-get_or w k d h
 
-pub marked_set : (w : List Block) (f : Block → Bool) (count bits : ℕ) → IsMarked (λ k. on_block f (block_at w k)) count bits → length w ≤ count → IsSetOf w f bits
+pub marked_set : (w : List Block) (f : Block → Bool) (count bits : ℕ) → IsMarked (λ k. on_block f (block_at w (k + 1))) count bits → length w ≤ count → IsSetOf w f bits
 marked_set w f count bits h l k b e _ = h.below k (omega (arith, slice_get_within w k b e, l)) ∙ ap (on_block f) (block_next w k ∙ e)
 
 none_within : (w : List Block) (k : ℕ) → slice_get w k ≡ None → length w ≤ k
@@ -103,7 +103,7 @@ none_within [] k e = omega arith
 none_within (b ∷ bs) zero e = absurd (cc)
 none_within (b ∷ bs) (suc k) e = omega (arith, none_within bs k e)
 
-pub set_extends : (w : List Block) (f : Block → Bool) (g : Option Block → Bool) (bits : ℕ) → IsSetOf w f bits → ((b : Block) → f b ≡ g (Some b)) → IsExtension w (λ k. g (block_at w k)) bits
+pub set_extends : (w : List Block) (f : Block → Bool) (g : Option Block → Bool) (bits : ℕ) → IsSetOf w f bits → ((b : Block) → f b ≡ g (Some b)) → IsExtension (length w) (λ k. g (block_at w (k + 1))) bits
 set_extends w f g bits h same k l low = by_block (slice_get w k) refl
   where
     by_block : (o : Option Block) → slice_get w k ≡ o → has bits k ≡ g (block_at w (k + 1))

@@ -6,11 +6,16 @@ use Rattle.std.proofs.lemmas.Bool.{cases_lt}
 use native.Mathlib.Nat.{div-div-eq-div-mul, div-eq_of_lt}
 use Rattle.fol_core.specs.Word.{Word}
 use Rattle.fol_core.specs.declared.sent.Term.TheVariants as t
+use Rattle.block_world.specs.declared.answer.Place.{Place}
 use Rattle.block_world.specs.declared.block.Block.{Block}
 use Rattle.block_world.specs.declared.bound.Bound.{Bound, the_lemmas}
 use Rattle.block_world.specs.declared.bound.Bound.TheVariants as b
-use Rattle.block_world.specs.Assignments.{put, number_at}
+use Rattle.block_world.specs.Assignments.{put, number_at, own_names}
 use Rattle.block_world.specs.Bound.{standing}
+use Rattle.block_world.specs.Places.{given}
+
+pub standing_given : (places : Bor (List Place)) (w : List Block) (r k : ℕ) → standing (b.Given places) w r k ≡ given places.now (own_names w)
+standing_given places w r k = search (rules, the_lemmas)
 
 pub standing_one : (x : Bor Word) (m : ℕ) (rest : Bor Bound) (w : List Block) (r k : ℕ) → standing (b.One x m rest) w r k ≡ put x.now m (standing rest.now w r k)
 standing_one x m rest w r k = search (rules, the_lemmas)
@@ -18,23 +23,37 @@ standing_one x m rest w r k = search (rules, the_lemmas)
 pub standing_by_row : (x : Bor Word) (rest : Bor Bound) (w : List Block) (r k : ℕ) → standing (b.ByRow x rest) w r k ≡ put x.now (r % length w + 1) (standing rest.now w (r / length w) k)
 standing_by_row x rest w r k = search (rules, the_lemmas)
 
+pub standing_by_column : (x : Bor Word) (rest : Bor Bound) (w : List Block) (r k : ℕ) → standing (b.ByColumn x rest) w r k ≡ put x.now (k % length w + 1) (standing rest.now w r (k / length w))
+standing_by_column x rest w r k = search (rules, the_lemmas)
+
 -- the number of a name, which no bound variable stands for
 pub name_past_one : (w : List Block) (bound : Bound) (rest : Bor Bound) (x : Bor Word) (m : ℕ) (n : Word) (r k : ℕ) → bound ≡ b.One x m rest → number_at (standing rest.now w r k) (t.Name n) ≡ number_at (standing bound w r k) (t.Name n)
 name_past_one w bound rest x m n r k e = sym (ap (λ o. number_at (standing o w r k) (t.Name n)) e ∙ ap (λ a. number_at a (t.Name n)) (standing_one x m rest w r k))
 
-pub name_past_digit : (w : List Block) (bound : Bound) (rest : Bor Bound) (x : Bor Word) (n : Word) (r k : ℕ) → bound ≡ b.ByRow x rest → number_at (standing rest.now w (r / length w) k) (t.Name n) ≡ number_at (standing bound w r k) (t.Name n)
-name_past_digit w bound rest x n r k e = sym (ap (λ o. number_at (standing o w r k) (t.Name n)) e ∙ ap (λ a. number_at a (t.Name n)) (standing_by_row x rest w r k))
+pub name_past_column : (w : List Block) (bound : Bound) (rest : Bor Bound) (x : Bor Word) (n : Word) (r k : ℕ) → bound ≡ b.ByColumn x rest → number_at (standing rest.now w r (k / length w)) (t.Name n) ≡ number_at (standing bound w r k) (t.Name n)
+name_past_column w bound rest x n r k e = sym (ap (λ o. number_at (standing o w r k) (t.Name n)) e ∙ ap (λ a. number_at a (t.Name n)) (standing_by_column x rest w r k))
 
--- A row without its last digits, and without one more. A stride that is too great for its type leaves nothing of a row.
+pub name_past_row : (w : List Block) (bound : Bound) (rest : Bor Bound) (x : Bor Word) (n : Word) (r k : ℕ) → bound ≡ b.ByRow x rest → number_at (standing rest.now w (r / length w) k) (t.Name n) ≡ number_at (standing bound w r k) (t.Name n)
+name_past_row w bound rest x n r k e = sym (ap (λ o. number_at (standing o w r k) (t.Name n)) e ∙ ap (λ a. number_at a (t.Name n)) (standing_by_row x rest w r k))
+
+-- A row or a column without its last digits, and without one more. A place value that is too great for its type leaves nothing
+-- of them.
 saturated : (r s n m : ℕ) → r < 512 → m ≡ min (s * n) 4294967295 → r / s / n ≡ r / m
 saturated r s n m low e = elim (cases_lt (s * n) 4294967296) [
   | inl less ↦ div-div-eq-div-mul r s n ∙ ap (λ o. r / o) (omega (arith, e, less))
   | inr more ↦ div-div-eq-div-mul r s n ∙ div-eq_of_lt (omega (arith, low, more)) ∙ sym (div-eq_of_lt (omega (arith, low, e, more)))
 ]
 
-pub past_digit : (w : List Block) (bound : Bound) (rest : Bor Bound) (y : Bor Word) (x : Word) (r s m k : ℕ) → r < 512 → bound ≡ b.ByRow y rest → m ≡ min (s * length w) 4294967295 → bytes_eq y.now x ≡ false →
+pub past_row : (w : List Block) (bound : Bound) (rest : Bor Bound) (y : Bor Word) (x : Word) (r s m k : ℕ) → r < 512 → bound ≡ b.ByRow y rest → m ≡ min (s * length w) 4294967295 → bytes_eq y.now x ≡ false →
     number_at (standing rest.now w (r / m) k) (t.Var x) ≡ number_at (standing bound w (r / s) k) (t.Var x)
-past_digit w bound rest y x r s m k low e i apart =
+past_row w bound rest y x r s m k low e i apart =
     sym (ap (λ o. number_at (standing o w (r / s) k) (t.Var x)) e ∙ ap (λ a. number_at a (t.Var x)) (standing_by_row y rest w (r / s) k)
     ∙ ap (λ c. if c then (r / s) % length w + 1 else number_at (standing rest.now w (r / s / length w) k) (t.Var x)) apart
     ∙ ap (λ q. number_at (standing rest.now w q k) (t.Var x)) (saturated r s (length w) m low i))
+
+pub past_column : (w : List Block) (bound : Bound) (rest : Bor Bound) (y : Bor Word) (x : Word) (r k s m : ℕ) → k < 64 → bound ≡ b.ByColumn y rest → m ≡ min (s * length w) 4294967295 → bytes_eq y.now x ≡ false →
+    number_at (standing rest.now w r (k / m)) (t.Var x) ≡ number_at (standing bound w r (k / s)) (t.Var x)
+past_column w bound rest y x r k s m low e i apart =
+    sym (ap (λ o. number_at (standing o w r (k / s)) (t.Var x)) e ∙ ap (λ a. number_at a (t.Var x)) (standing_by_column y rest w r (k / s))
+    ∙ ap (λ c. if c then (k / s) % length w + 1 else number_at (standing rest.now w r (k / s / length w)) (t.Var x)) apart
+    ∙ ap (λ q. number_at (standing rest.now w r q) (t.Var x)) (saturated k s (length w) m (omega (arith, low)) i))

@@ -1,7 +1,6 @@
 -- Sets of the blocks of a world, by the places of the blocks in their order, counted from 0.
-use Rattle.std.specs.Prelude.{◌≡◌, ℕ, ◌+◌, ◌<◌, Bool, true, false, ◌==◌, List, length}
+use Rattle.std.specs.Prelude.{◌≡◌, ℕ, ◌<◌, Bool, true, false, ◌==◌}
 use Rattle.std.specs.Int.{bit_at}
-use Rattle.block_world.specs.declared.block.Block.{Block}
 
 -- The place is in the set of these bits.
 abbrev pub has : ℕ → ℕ → Bool
@@ -23,7 +22,6 @@ HasOne count bits = (k : ℕ) × (k < count) × (has bits k ≡ true)
 abbrev pub HasNone : ℕ → ℕ → Type 0
 HasNone count bits = (k : ℕ) → k < count → has bits k ≡ false
 
--- Of a world of at most 64 blocks, the set has just those of whose numbers the function is true. The block at the place k
--- has the number k + 1.
-abbrev pub IsExtension : List Block → (ℕ → Bool) → ℕ → Type 0
-IsExtension w f bits = (k : ℕ) → k < length w → k < 64 → has bits k ≡ f (k + 1)
+-- Of the first places, so many and at most 64, the set has just those of which the function is true.
+abbrev pub IsExtension : ℕ → (ℕ → Bool) → ℕ → Type 0
+IsExtension columns f bits = (c : ℕ) → c < columns → c < 64 → has bits c ≡ f c

@@ -1,4 +1,4 @@
--- What stands for variables while the blocks for which a sentence is true are found, all at once.
+-- What stands for variables in a table: in a row and a column of it.
 use Rattle.std.specs.Prelude.{ℕ, ◌+◌, ◌/◌, ◌%◌, List, length}
 use Rattle.block_world.specs.declared.block.Block.{Block}
 use Rattle.block_world.specs.declared.bound.Bound.{Bound, fold-Bound}
@@ -7,17 +7,15 @@ use Rattle.block_world.specs.declared.bound.Bound.TheOpen as f
 use Rattle.block_world.specs.Assignments.{Assignment, put, own_names}
 use Rattle.block_world.specs.Places.{given}
 
--- One quantifier's variable, put over what stands further out, in a row of a table and where the outermost variable stands
--- for the block of the number k. A variable that goes by rows stands for the block of the row's last digit, where the row is
--- written in as many digits as the world has blocks; what stands further out goes by the row without that digit.
-abbrev pub standing_step : List Block → ℕ → Bound-F (ℕ → Assignment) → ℕ → Assignment
-standing_step w k (f.Each x places) r = put x.now k (given places.now (own_names w))
-standing_step w k (f.One x m rest) r = put x.now m (rest.now r)
-standing_step w k (f.ByRow x rest) r = put x.now (r % length w + 1) (rest.now (r / length w))
+-- One quantifier's variable, put over what stands further out. A row and a column are numerals to the base of the number of
+-- blocks. A variable that goes by columns stands for the block of the column's last digit, and what stands further out goes
+-- by the column without that digit; and so it is with rows.
+abbrev pub standing_step : List Block → Bound-F (ℕ → ℕ → Assignment) → ℕ → ℕ → Assignment
+standing_step w (f.Given places) r c = given places.now (own_names w)
+standing_step w (f.One x m rest) r c = put x.now m (rest.now r c)
+standing_step w (f.ByRow x rest) r c = put x.now (r % length w + 1) (rest.now (r / length w) c)
+standing_step w (f.ByColumn x rest) r c = put x.now (c % length w + 1) (rest.now r (c / length w))
 
-abbrev pub standing_in : List Block → ℕ → Bound → ℕ → Assignment
-standing_in w k = fold-Bound (ℕ → Assignment) (standing_step w k)
-
--- What all terms stand for in a row, where the outermost variable stands for the block of the number k.
+-- What all terms stand for in a row and a column.
 abbrev pub standing : Bound → List Block → ℕ → ℕ → Assignment
-standing bound w r k = standing_in w k bound r
+standing bound w = fold-Bound (ℕ → ℕ → Assignment) (standing_step w) bound

@@ -10,8 +10,8 @@ pub mod Places
 pub mod Bound
 pub mod Truth
 pub mod Tables
-pub mod Claims
 pub mod Digits
+pub mod Relations
 pub mod Referents
 pub mod Work
 pub mod Answers

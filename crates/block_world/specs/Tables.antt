@@ -1,7 +1,6 @@
 -- Tables of sets of blocks, and the ways to join values to one.
-use Rattle.std.specs.Prelude.{◌≡◌, ℕ, ◌+◌, ◌<◌, Bool, true, false, not, ◌&&◌, ◌||◌, List, get_or}
+use Rattle.std.specs.Prelude.{◌≡◌, ℕ, ◌+◌, ◌*◌, ◌<◌, Bool, true, false, not, ◌&&◌, ◌||◌, List, get_or}
 use Rattle.std.specs.List.{list_all, list_any, range_with_len}
-use Rattle.block_world.specs.declared.block.Block.{Block}
 use Rattle.block_world.specs.declared.junction.Connective.{Connective}
 use Rattle.block_world.specs.declared.junction.Connective.TheVariants.{And, Or, If, Iff}
 use Rattle.block_world.specs.declared.junction.Junction.{Junction}
@@ -36,9 +35,9 @@ abbrev pub joined : {X : Type 0} → Junction → (X → Bool) → List X → Bo
 joined Every f xs = list_all f xs
 joined Any f xs = list_any f xs
 
--- Each of the first rows, so many, is the extension of its function.
-abbrev pub AreExtensions : List Block → ℕ → (ℕ → ℕ → Bool) → Table → Type 0
-AreExtensions w rows f t = (r : ℕ) → r < rows → IsExtension w (f r) (bits_in t r)
+-- Each of the first rows, so many, has of the first columns, so many, just those of which its function is true.
+abbrev pub AreExtensions : ℕ → ℕ → (ℕ → ℕ → Bool) → Table → Type 0
+AreExtensions columns rows f t = (r : ℕ) → r < rows → IsExtension columns (f r) (bits_in t r)
 
 -- The set has what a connective makes of two sets, for each of the 64 places.
 abbrev pub IsJoin : Connective → ℕ → ℕ → ℕ → Type 0
@@ -47,6 +46,11 @@ IsJoin c left right bits = (k : ℕ) → k < 64 → has bits k ≡ connect c (ha
 -- The set has what the other lacks, of the 64 places.
 abbrev pub IsComplement : ℕ → ℕ → Type 0
 IsComplement other bits = (k : ℕ) → k < 64 → has bits k ≡ not (has other k)
+
+-- In each of the first columns, so many, the set has what a junction makes of a group of columns of the other, so many to a
+-- group, one group after the other.
+abbrev pub AreGathered : Junction → ℕ → ℕ → ℕ → ℕ → Type 0
+AreGathered j columns count other bits = (c : ℕ) → c < columns → c < 64 → has bits c ≡ joined j (λ m. has other (c * count + m)) (range_with_len 0 count)
 
 -- The set has what a junction makes of a group of rows, so many from the first one.
 abbrev pub IsGroup : Junction → Table → ℕ → ℕ → ℕ → Type 0

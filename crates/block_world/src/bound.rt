@@ -13,54 +13,65 @@ use fol_core::{Ident, Term, same_ident};
 
 /// The variables of the quantifiers around a place in a sentence, the innermost first.
 ///
-/// While the blocks for which a sentence is true are found, the variable of the outermost quantifier runs through all blocks at
-/// once, and those of the next ones stand for other blocks from row to row of a table: a row is a numeral, written in as many
-/// digits as there are blocks, of which the last digit is for the innermost of these variables.
+/// While a table is written, the variables of the outermost quantifiers stand for other blocks from column to column, and those
+/// of the next ones from row to row. A column and a row are numerals to the base of the number of blocks, of which the last
+/// digit is for the innermost of their variables. Those further in stand for one block at a time.
 #[derive(Drop)]
 pub enum Bound<'a> {
-    /// The variable of the outermost quantifier, with the places that are given.
-    Each(&'a Ident, &'a [Place]),
+    /// No quantifier: the places that are given.
+    Given(&'a [Place]),
     /// A variable that stands for the block of the number.
     One(&'a Ident, u32, &'a Bound<'a>),
     /// A variable that stands for the block of the row's last digit. What is around it has the row without that digit.
     ByRow(&'a Ident, &'a Bound<'a>),
+    /// The same with the column.
+    ByColumn(&'a Ident, &'a Bound<'a>),
 }
 
 /// What the term stands for.
 pub(crate) fn referent_of(t: &Term, world: &World, bound: &Bound<'_>) -> Referent
-    ensures value { (r k : ℕ) → r < 512 → number_by (length world.now) result r k ≡ number_at (standing bound.now world.now r k) t.now }
+    ensures value { (r c : ℕ) → r < 512 → c < 64 → number_by (length world.now) result r c ≡ number_at (standing bound.now world.now r c) t.now }
 {
     match t {
-        Term::Var(x) => referent_of_variable(x, world, bound, 1),
+        Term::Var(x) => referent_of_variable(x, world, bound, 1, 1),
         Term::Name(n) => Referent::One(number_of_name(n, world, bound)),
     }
 }
 
-/// What the variable stands for, where the rows of the bound variables are those of a table without their last digits, and
-/// where the last digit left has this value where it is a one.
-fn referent_of_variable(x: &Ident, world: &World, bound: &Bound<'_>, stride: u32) -> Referent
-    ensures value { (r k : ℕ) → r < 512 → number_by (length world.now) result r k ≡ number_at (standing bound.now world.now (r / stride) k) (terms.Var x.now) }
+/// What the variable stands for, where the rows and the columns of the bound variables are those of a table without their last
+/// digits, and where these are the place values of the last digits left.
+fn referent_of_variable(
+    x: &Ident,
+    world: &World,
+    bound: &Bound<'_>,
+    row: u32,
+    column: u32,
+) -> Referent
+    ensures value { (r c : ℕ) → r < 512 → c < 64 → number_by (length world.now) result r c ≡ number_at (standing bound.now world.now (r / row) (c / column)) (terms.Var x.now) }
 {
     match bound {
-        Bound::Each(y, places) => {
-            if same_ident(y, x) {
-                Referent::Each
-            } else {
-                Referent::One(number_of_place(x, world, places))
-            }
-        }
+        Bound::Given(places) => Referent::One(number_of_place(x, world, places)),
         Bound::One(y, number, rest) => {
             if same_ident(y, x) {
                 Referent::One(*number)
             } else {
-                referent_of_variable(x, world, rest, stride)
+                referent_of_variable(x, world, rest, row, column)
             }
         }
         Bound::ByRow(y, rest) => {
             if same_ident(y, x) {
-                Referent::ByRow(stride)
+                Referent::ByRow(row)
             } else {
-                referent_of_variable(x, world, rest, stride.saturating_mul(block_count(world)))
+                let next = row.saturating_mul(block_count(world));
+                referent_of_variable(x, world, rest, next, column)
+            }
+        }
+        Bound::ByColumn(y, rest) => {
+            if same_ident(y, x) {
+                Referent::ByColumn(column)
+            } else {
+                let next = column.saturating_mul(block_count(world));
+                referent_of_variable(x, world, rest, row, next)
             }
         }
     }
@@ -68,12 +79,13 @@ fn referent_of_variable(x: &Ident, world: &World, bound: &Bound<'_>, stride: u32
 
 /// The number of the block that has the name, for which no quantifier and no place stands.
 fn number_of_name(n: &Ident, world: &World, bound: &Bound<'_>) -> u32
-    ensures value { (r k : ℕ) → result ≡ number_at (standing bound.now world.now r k) (terms.Name n.now) }
+    ensures value { (r c : ℕ) → result ≡ number_at (standing bound.now world.now r c) (terms.Name n.now) }
 {
     match bound {
-        Bound::Each(_, places) => number_past_places(n, world, places),
+        Bound::Given(places) => number_past_places(n, world, places),
         Bound::One(_, _, rest) => number_of_name(n, world, rest),
         Bound::ByRow(_, rest) => number_of_name(n, world, rest),
+        Bound::ByColumn(_, rest) => number_of_name(n, world, rest),
     }
 }
 

@@ -1,33 +1,62 @@
-ghost use Rattle.std.specs.Prelude.{◌≡◌, ◌<◌, ◌≤◌, ℕ, IfSome};
-ghost use Rattle.block_world.specs.Claims.{number_in};
+ghost use Rattle.std.specs.Prelude.{◌≡◌, ◌<◌, ◌≤◌, ◌+◌, ◌*◌, ℕ, IfSome};
 ghost use Rattle.block_world.specs.Digits.{case_of, digit_of, number_by};
 
 /// What block a term stands for.
 #[derive(Clone, Copy)]
 pub enum Referent {
-    /// Each block in turn.
-    Each,
     /// The block of the number.
     One(u32),
-    /// The block of the row's digit of this value.
+    /// The block of the row's digit of this place value.
     ByRow(u32),
+    /// The block of the column's digit of this place value.
+    ByColumn(u32),
 }
 
 impl Referent {
-    /// The number of the block in the row, of a world of so many blocks; none where each block is meant.
-    pub(crate) fn at(self, row: u32, count: u32) -> Option<u32>
+    /// What it is in the row, whatever the row was.
+    pub(crate) fn at(self, row: u32, count: u32) -> Referent
         requires some { 0 < count }
-        ensures value { (k : ℕ) → number_in result k ≡ number_by count self row k }
+        ensures value { (c : ℕ) → number_by count result 0 c ≡ number_by count self row c }
     {
         match self {
-            Referent::Each => None,
-            Referent::One(number) => Some(number),
-            Referent::ByRow(stride) => Some(digit(row, stride, count) + 1),
+            Referent::ByRow(stride) => Referent::One(digit(row, stride, count) + 1),
+            Referent::One(_) | Referent::ByColumn(_) => self,
+        }
+    }
+
+    /// What it is in a group of rows, as many as there are blocks, where these are the first rows; none where it goes by another
+    /// digit than the last two.
+    pub(crate) fn in_group(self, group: u32, count: u32) -> Option<Referent>
+        requires within { group < count }
+        ensures value { IfSome result (λ s. (r c : ℕ) → r < count → number_by count s r c ≡ number_by count self (group * count + r) c) }
+    {
+        match self {
+            Referent::One(_) | Referent::ByColumn(_) => Some(self),
+            Referent::ByRow(1) => Some(self),
+            Referent::ByRow(stride) => {
+                if stride == count {
+                    Some(Referent::One(group + 1))
+                } else {
+                    None
+                }
+            }
+        }
+    }
+
+    /// The number of the block in the first row and the column.
+    pub(crate) fn number(self, column: u32, count: u32) -> u32
+        requires some { 0 < count }
+        ensures value { result ≡ number_by count self 0 column }
+    {
+        match self {
+            Referent::One(number) => number,
+            Referent::ByRow(stride) => digit(0, stride, count) + 1,
+            Referent::ByColumn(stride) => digit(column, stride, count) + 1,
         }
     }
 }
 
-/// The digit of the row that has this value where it is a one; 0 where the value is.
+/// The digit of this place value of a row or a column; 0 where the value is.
 pub(crate) fn digit(row: u32, stride: u32, count: u32) -> u32
     requires some { 0 < count }
     ensures value { result ≡ digit_of count stride row }
@@ -36,9 +65,10 @@ pub(crate) fn digit(row: u32, stride: u32, count: u32) -> u32
     row.checked_div(stride).unwrap_or(0) % count
 }
 
-/// Two digits of a row, each by the value that it has where it is a one; 0 where it isn't there.
+/// Two digits of a row, each by its place value; 0 where it isn't there.
 ///
-/// What an atomic sentence says depends on few digits: rows that have these in common are one case.
+/// What an atomic sentence says depends on few digits: rows that have these in common are one case. Which digits are taken
+/// decides how long it takes to write a table, and never what is written.
 #[derive(Clone, Copy)]
 pub struct Digits {
     low: u32,
@@ -52,7 +82,7 @@ impl Digits {
     pub(crate) fn with(self, referent: Referent) -> Digits {
         match referent {
             Referent::ByRow(stride) => self.with_digit(stride),
-            Referent::Each | Referent::One(_) => self,
+            Referent::One(_) | Referent::ByColumn(_) => self,
         }
     }
 
@@ -99,7 +129,7 @@ impl Digits {
     /// What the term stands for, where the cases are the rows; none where it goes by another digit.
     pub(crate) fn by_case(self, referent: Referent, count: u32) -> Option<Referent>
         requires some { 0 < count }
-        ensures value { IfSome result (λ s. (r k : ℕ) → number_by count s (case_of count self r) k ≡ number_by count referent r k) }
+        ensures value { IfSome result (λ s. (r c : ℕ) → number_by count s (case_of count self r) c ≡ number_by count referent r c) }
     {
         match referent {
             Referent::ByRow(stride) => {
@@ -111,7 +141,7 @@ impl Digits {
                     None
                 }
             }
-            Referent::Each | Referent::One(_) => Some(referent),
+            Referent::One(_) | Referent::ByColumn(_) => Some(referent),
         }
     }
 }

@@ -6,59 +6,73 @@ ghost use Rattle.block_world.specs.Tables.{AreExtensions, connect, joined};
 ghost use Rattle.block_world.specs.Truth.{val};
 ghost use Rattle.block_world.specs.Worlds.{numbers};
 
-use crate::atomic::{Atomic, referents_of};
+use crate::atomic::{Atomic, atomic_of};
 use crate::block_set::BlockSet;
 use crate::board::{World, block_count};
 use crate::bound::{Bound, referent_of};
+use crate::extent::{COLUMNS, Extent, ROWS};
 use crate::junction::{Connective, Junction};
 use crate::predicate::predicate_of;
-use crate::table::{ROWS, Table};
+use crate::relation::Relation;
+use crate::table::Table;
 use fol_core::{Ident, Sent, Term};
 
-/// Writes into the first rows of the table the blocks for which the sentence is true where the outermost variable stands for
-/// them. It takes no memory.
+/// Writes into the first rows and columns of the table whether the sentence is true there. It takes no memory.
 #[cycle(extension)]
-pub(crate) fn extend(table: &mut Table, s: &Sent, world: &World, bound: &Bound<'_>, rows: u32)
+pub(crate) fn tabulate(
+    table: &mut Table,
+    s: &Sent,
+    world: &World,
+    bound: &Bound<'_>,
+    extent: Extent,
+)
     requires some { 0 < length world.now }
-    requires few { rows ≤ 512 }
-    ensures value { AreExtensions world.now rows (λ r k. val world.now (standing bound.now world.now r k) s.now) table.new }
+    requires few { extent.rows ≤ 512 }
+    requires narrow { extent.columns ≤ 64 }
+    ensures value { AreExtensions extent.columns extent.rows (λ r c. val world.now (standing bound.now world.now r c) s.now) table.new }
 {
     match s {
-        Sent::Atom(p, terms) => extend_atom(table, p, terms.as_slice(), world, bound, rows),
+        Sent::Atom(p, terms) => tabulate_atom(table, p, terms.as_slice(), world, bound, extent),
         Sent::Eq(a, b) => {
-            Atomic::Equal(referent_of(a, world, bound), referent_of(b, world, bound)).extend(
-                table, world, rows,
-            );
+            let (s, t) = (referent_of(a, world, bound), referent_of(b, world, bound));
+            Atomic::Two(Relation::Same, s, t).tabulate(table, world, extent);
         }
-        Sent::Bottom => table.fill(BlockSet::EMPTY, rows),
+        Sent::Bottom => table.fill(BlockSet::EMPTY, extent.rows),
         Sent::Not(a) => {
-            extend(table, a.get(), world, bound, rows);
-            table.complement(rows);
+            tabulate(table, a.get(), world, bound, extent);
+            table.complement(extent.rows);
         }
         Sent::And(parts) => {
-            extend_joined(table, Junction::Every, parts.as_slice(), world, bound, rows);
+            tabulate_joined(
+                table,
+                Junction::Every,
+                parts.as_slice(),
+                world,
+                bound,
+                extent,
+            );
         }
         Sent::Or(parts) => {
-            extend_joined(table, Junction::Any, parts.as_slice(), world, bound, rows);
+            tabulate_joined(table, Junction::Any, parts.as_slice(), world, bound, extent);
         }
         Sent::If(a, b) => {
-            extend(table, a.get(), world, bound, rows);
-            join_next(table, Connective::If, b.get(), world, bound, rows);
+            tabulate(table, a.get(), world, bound, extent);
+            join_next(table, Connective::If, b.get(), world, bound, extent);
         }
         Sent::Iff(a, b) => {
-            extend(table, a.get(), world, bound, rows);
-            join_next(table, Connective::Iff, b.get(), world, bound, rows);
+            tabulate(table, a.get(), world, bound, extent);
+            join_next(table, Connective::Iff, b.get(), world, bound, extent);
         }
         Sent::All(x, a) => {
-            extend_quantified(table, Junction::Every, x, a.get(), world, bound, rows);
+            tabulate_quantified(table, Junction::Every, x, a.get(), world, bound, extent);
         }
         Sent::Ex(x, a) => {
-            extend_quantified(table, Junction::Any, x, a.get(), world, bound, rows);
+            tabulate_quantified(table, Junction::Any, x, a.get(), world, bound, extent);
         }
     }
 }
 
-/// Joins to what each of the first rows has, by the connective, the blocks for which the sentence is true.
+/// Joins to the values in the table, by the connective, those of the sentence.
 #[cycle(extension)]
 fn join_next(
     table: &mut Table,
@@ -66,117 +80,128 @@ fn join_next(
     s: &Sent,
     world: &World,
     bound: &Bound<'_>,
-    rows: u32,
+    extent: Extent,
 )
     requires some { 0 < length world.now }
-    requires few { rows ≤ 512 }
-    ensures value { (f : ℕ → ℕ → Bool) → AreExtensions world.now rows f table.old → AreExtensions world.now rows (λ r k. connect connective (f r k) (val world.now (standing bound.now world.now r k) s.now)) table.new }
+    requires few { extent.rows ≤ 512 }
+    requires narrow { extent.columns ≤ 64 }
+    ensures value { (f : ℕ → ℕ → Bool) → AreExtensions extent.columns extent.rows f table.old → AreExtensions extent.columns extent.rows (λ r c. connect connective (f r c) (val world.now (standing bound.now world.now r c) s.now)) table.new }
 {
     let mut next = Table::EMPTY;
-    extend(&mut next, s, world, bound, rows);
-    table.join(connective, &next, rows);
+    tabulate(&mut next, s, world, bound, extent);
+    table.join(connective, &next, extent.rows);
 }
 
 /// The same for sentences that the junction joins.
 #[cycle(extension)]
-fn extend_joined(
+fn tabulate_joined(
     table: &mut Table,
     junction: Junction,
     parts: &[Sent],
     world: &World,
     bound: &Bound<'_>,
-    rows: u32,
+    extent: Extent,
 )
     requires some { 0 < length world.now }
-    requires few { rows ≤ 512 }
-    ensures value { AreExtensions world.now rows (λ r k. joined junction (val world.now (standing bound.now world.now r k)) parts.now) table.new }
+    requires few { extent.rows ≤ 512 }
+    requires narrow { extent.columns ≤ 64 }
+    ensures value { AreExtensions extent.columns extent.rows (λ r c. joined junction (val world.now (standing bound.now world.now r c)) parts.now) table.new }
 {
     let mut next = Table::EMPTY;
-    table.fill(junction.of_none(), rows);
+    table.fill(junction.of_none(), extent.rows);
     for part in parts {
-        extend(&mut next, part, world, bound, rows);
-        table.join(junction.connective(), &next, rows);
+        tabulate(&mut next, part, world, bound, extent);
+        table.join(junction.connective(), &next, extent.rows);
     }
 }
 
-/// The same for a sentence whose variable stands for every block, or for any, as the junction says.
+/// The same for a sentence whose variable stands for every block, or for any, as the junction says: by columns while there
+/// are enough of them, and then by rows.
 #[cycle(extension)]
-fn extend_quantified(
+fn tabulate_quantified(
     table: &mut Table,
     junction: Junction,
     x: &Ident,
     part: &Sent,
     world: &World,
     bound: &Bound<'_>,
-    rows: u32,
+    extent: Extent,
 )
     requires some { 0 < length world.now }
-    requires few { rows ≤ 512 }
-    ensures value { AreExtensions world.now rows (λ r k. joined junction (λ m. val world.now (put x.now m (standing bound.now world.now r k)) part.now) (numbers world.now)) table.new }
+    requires few { extent.rows ≤ 512 }
+    requires narrow { extent.columns ≤ 64 }
+    ensures value { AreExtensions extent.columns extent.rows (λ r c. joined junction (λ m. val world.now (put x.now m (standing bound.now world.now r c)) part.now) (numbers world.now)) table.new }
 {
     let count = block_count(world);
-    if rows * count <= ROWS {
-        extend(
-            table,
-            part,
-            world,
-            &Bound::ByRow(&*x, &*bound),
-            rows * count,
-        );
-        table.join_groups(junction, rows, count);
+    if extent.columns * count <= COLUMNS {
+        let wide = Extent {
+            rows: extent.rows,
+            columns: extent.columns * count,
+        };
+        tabulate(table, part, world, &Bound::ByColumn(&*x, &*bound), wide);
+        table.gather(junction, extent.rows, extent.columns, count);
+    } else if extent.rows * count <= ROWS {
+        let long = Extent {
+            rows: extent.rows * count,
+            columns: extent.columns,
+        };
+        tabulate(table, part, world, &Bound::ByRow(&*x, &*bound), long);
+        table.join_groups(junction, extent.rows, count);
     } else {
-        extend_by_turns(table, junction, x, part, world, bound, rows);
+        tabulate_by_turns(table, junction, x, part, world, bound, extent);
     }
 }
 
-/// The same, where no table has so many rows: the variable stands for one block after the other.
+/// The same, where no table is so large: the variable stands for one block after the other.
 #[cycle(extension)]
-fn extend_by_turns(
+fn tabulate_by_turns(
     table: &mut Table,
     junction: Junction,
     x: &Ident,
     part: &Sent,
     world: &World,
     bound: &Bound<'_>,
-    rows: u32,
+    extent: Extent,
 )
     requires some { 0 < length world.now }
-    requires few { rows ≤ 512 }
-    ensures value { AreExtensions world.now rows (λ r k. joined junction (λ m. val world.now (put x.now m (standing bound.now world.now r k)) part.now) (numbers world.now)) table.new }
+    requires few { extent.rows ≤ 512 }
+    requires narrow { extent.columns ≤ 64 }
+    ensures value { AreExtensions extent.columns extent.rows (λ r c. joined junction (λ m. val world.now (put x.now m (standing bound.now world.now r c)) part.now) (numbers world.now)) table.new }
 {
     let mut turn = Table::EMPTY;
-    table.fill(junction.of_none(), rows);
+    table.fill(junction.of_none(), extent.rows);
     for before in 0..block_count(world) {
-        extend(
+        tabulate(
             &mut turn,
             part,
             world,
             &Bound::One(&*x, before + 1, &*bound),
-            rows,
+            extent,
         );
-        table.join(junction.connective(), &turn, rows);
+        table.join(junction.connective(), &turn, extent.rows);
     }
 }
 
-/// The same for an atomic sentence; of a predicate that isn't one of the blocks language there are none.
-fn extend_atom(
+/// The same for an atomic sentence, which is false where its predicate isn't one of the blocks language.
+fn tabulate_atom(
     table: &mut Table,
     p: &Ident,
     terms: &[Term],
     world: &World,
     bound: &Bound<'_>,
-    rows: u32,
+    extent: Extent,
 )
     requires some { 0 < length world.now }
-    requires few { rows ≤ 512 }
-    ensures value { AreExtensions world.now rows (λ r k. predicates.is_true_of (predicates.predicate_of p.now) (map (stands_for world.now (standing bound.now world.now r k)) terms.now)) table.new }
+    requires few { extent.rows ≤ 512 }
+    requires narrow { extent.columns ≤ 64 }
+    ensures value { AreExtensions extent.columns extent.rows (λ r c. predicates.is_true_of (predicates.predicate_of p.now) (map (stands_for world.now (standing bound.now world.now r c)) terms.now)) table.new }
 {
     let Some(predicate) = predicate_of(p.as_slice()) else {
-        table.fill(BlockSet::EMPTY, rows);
+        table.fill(BlockSet::EMPTY, extent.rows);
         return;
     };
-    match referents_of(terms, world, bound) {
-        Some(referents) => Atomic::Says(predicate, referents).extend(table, world, rows),
-        None => table.fill(BlockSet::EMPTY, rows),
+    match atomic_of(predicate, terms, world, bound) {
+        Some(atomic) => atomic.tabulate(table, world, extent),
+        None => table.fill(BlockSet::EMPTY, extent.rows),
     }
 }

@@ -25,7 +25,27 @@ impl Junction {
         }
     }
 
+    /// What is made of no values.
+    pub(crate) fn value_of_none(self) -> bool
+        ensures value { result ≡ tables.of_none self }
+    {
+        match self {
+            Junction::Every => true,
+            Junction::Any => false,
+        }
+    }
+
     /// What is made of two values.
+    pub(crate) fn join_two(self, first: bool, second: bool) -> bool
+        ensures value { result ≡ tables.join_two self first second }
+    {
+        match self {
+            Junction::Every => first && second,
+            Junction::Any => first || second,
+        }
+    }
+
+    /// How two values are joined.
     pub(crate) fn connective(self) -> Connective
         ensures value { tables.connect result ≡ tables.join_two self }
     {

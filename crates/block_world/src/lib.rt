@@ -8,19 +8,23 @@ mod block;
 mod block_set;
 mod board;
 mod bound;
-mod claim;
+mod columns;
 mod digits;
 mod extension;
+mod extent;
+mod first_row;
 mod junction;
 mod line;
 mod pairs;
 mod predicate;
 mod print;
 mod reading;
+mod relation;
 mod relations;
 mod scales;
 mod squares;
 mod table;
+mod tabulation;
 #[cfg(test)]
 mod tests;
 #[cfg(test)]

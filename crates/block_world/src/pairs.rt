@@ -1,105 +1,114 @@
 ghost use Rattle.std.specs.Prelude.{◌≡◌, ◌<◌, ◌≤◌, ◌+◌, ℕ, length};
 ghost use Rattle.block_world.specs.BlockSets.{has};
 ghost use Rattle.block_world.specs.Digits.{digit_of};
-ghost use Rattle.block_world.specs.Referents.{value_by, ArePairs};
-ghost use Rattle.block_world.specs.declared.atomic.Atomic.TheVariants.{Says};
-ghost use Rattle.block_world.specs.declared.digits.Referent.TheVariants as ref;
-ghost use Rattle.block_world.specs.declared.atomic.Referents.TheVariants.{One, Two};
+ghost use Rattle.block_world.specs.Referents.{value_by, ArePairsInColumns};
 ghost use Rattle.block_world.specs.Tables.{bits_in, AreExtensions};
+ghost use Rattle.block_world.specs.declared.atomic.Atomic.TheVariants.{One, Two};
+ghost use Rattle.block_world.specs.declared.digits.Referent.TheVariants as ref;
 
+use crate::atomic::Atomic;
 use crate::block_set::BlockSet;
 use crate::board::{World, block_count};
-use crate::claim::{Claim, claimed};
+use crate::columns::spread;
 use crate::digits::{Referent, digit};
+use crate::extent::Extent;
 use crate::predicate::Predicate;
+use crate::relation::{Relation, relate};
 use crate::table::Table;
 
-/// Writes into each of the first rows the blocks for which the predicate is true of what the term stands for.
-pub(crate) fn extend_one(
+/// Writes into the first rows and columns of the table whether the predicate is true of what the term stands for.
+pub(crate) fn tabulate_one(
     table: &mut Table,
     predicate: Predicate,
     s: Referent,
     world: &World,
-    rows: u32,
+    extent: Extent,
 )
     requires some { 0 < length world.now }
-    requires few { rows ≤ 512 }
-    ensures value { AreExtensions world.now rows (value_by world.now (Says predicate (One s))) table.new }
+    requires few { extent.rows ≤ 512 }
+    requires narrow { extent.columns ≤ 64 }
+    ensures value { AreExtensions extent.columns extent.rows (value_by world.now (One predicate s)) table.new }
 {
     match s {
-        Referent::Each => table.fill(world.having(predicate), rows),
         Referent::ByRow(stride) => {
-            deal_members(table, world.having(predicate), stride, world, rows);
+            deal_members(table, world.having(predicate), stride, world, extent.rows);
         }
-        Referent::One(n) => table.fill(claimed(predicate, Claim::One(Some(n)), world), rows),
+        Referent::One(_) | Referent::ByColumn(_) => {
+            let atomic = Atomic::One(predicate, s);
+            table.fill(atomic.in_columns(world, extent.columns), extent.rows);
+        }
     }
 }
 
-/// Writes into each of the first rows the blocks for which the predicate is true of what the two terms stand for. What it says
-/// of two blocks is looked up once for each of them, and not once for each row.
-pub(crate) fn extend_two(
+/// Writes into the first rows and columns of the table whether the relation is true of what the two terms stand for. What it
+/// says of two blocks is looked up once for each of them, and not once for each row.
+pub(crate) fn tabulate_two(
     table: &mut Table,
-    predicate: Predicate,
+    relation: Relation,
     s: Referent,
     t: Referent,
     world: &World,
-    rows: u32,
+    extent: Extent,
 )
     requires some { 0 < length world.now }
-    requires few { rows ≤ 512 }
-    ensures value { AreExtensions world.now rows (value_by world.now (Says predicate (Two s t))) table.new }
+    requires few { extent.rows ≤ 512 }
+    requires narrow { extent.columns ≤ 64 }
+    ensures value { AreExtensions extent.columns extent.rows (value_by world.now (Two relation s t)) table.new }
 {
     match (s, t) {
-        (Referent::Each, Referent::ByRow(stride)) => {
-            deal_by_digit(table, predicate, stride, world, rows);
+        (Referent::ByColumn(column), Referent::ByRow(row)) => {
+            deal_by_digit(table, relation, column, row, world, extent);
         }
-        (Referent::ByRow(stride), Referent::Each) => {
-            deal_by_digit(table, predicate.converse(), stride, world, rows);
+        (Referent::ByRow(row), Referent::ByColumn(column)) => {
+            deal_by_digit(table, relation.converse(), column, row, world, extent);
         }
         (Referent::ByRow(stride), Referent::One(n)) => {
-            deal_members(table, world.related(predicate, n), stride, world, rows);
+            deal_members(
+                table,
+                relation.related(n, world),
+                stride,
+                world,
+                extent.rows,
+            );
         }
         (Referent::One(m), Referent::ByRow(stride)) => {
-            let set = world.related(predicate.converse(), m);
-            deal_members(table, set, stride, world, rows);
+            let set = relation.converse().related(m, world);
+            deal_members(table, set, stride, world, extent.rows);
         }
         (Referent::ByRow(first), Referent::ByRow(second)) => {
-            deal_pairs(table, predicate, first, second, world, rows);
+            deal_pairs(table, relation, first, second, world, extent);
         }
-        (Referent::Each, Referent::Each) => {
-            table.fill(claimed(predicate, Claim::Two(None, None), world), rows);
-        }
-        (Referent::Each, Referent::One(n)) => {
-            table.fill(claimed(predicate, Claim::Two(None, Some(n)), world), rows);
-        }
-        (Referent::One(m), Referent::Each) => {
-            table.fill(claimed(predicate, Claim::Two(Some(m), None), world), rows);
-        }
-        (Referent::One(m), Referent::One(n)) => {
-            table.fill(
-                claimed(predicate, Claim::Two(Some(m), Some(n)), world),
-                rows,
-            );
+        (Referent::One(_) | Referent::ByColumn(_), Referent::One(_) | Referent::ByColumn(_)) => {
+            let atomic = Atomic::Two(relation, s, t);
+            table.fill(atomic.in_columns(world, extent.columns), extent.rows);
         }
     }
 }
 
-/// In each row the blocks that stand so to the one of the row's digit. They are first written into the rows of the blocks, and
-/// then dealt out from the last row on, since no row has a digit that is greater than the row.
-fn deal_by_digit(table: &mut Table, predicate: Predicate, stride: u32, world: &World, rows: u32)
+/// In each row the columns of the blocks that stand so to the one of the row's digit. They are first written into the rows of
+/// the blocks, and then dealt out from the last row on, since no row has a digit that is greater than the row.
+fn deal_by_digit(
+    table: &mut Table,
+    relation: Relation,
+    column: u32,
+    stride: u32,
+    world: &World,
+    extent: Extent,
+)
     requires some { 0 < length world.now }
-    requires few { rows ≤ 512 }
-    ensures value { AreExtensions world.now rows (value_by world.now (Says predicate (Two ref.Each (ref.ByRow stride)))) table.new }
+    requires few { extent.rows ≤ 512 }
+    requires narrow { extent.columns ≤ 64 }
+    ensures value { AreExtensions extent.columns extent.rows (value_by world.now (Two relation (ref.ByColumn column) (ref.ByRow stride))) table.new }
 {
     let count = block_count(world);
-    relate(table, predicate, world);
-    for done in 0..rows {
-        let row = rows - 1 - done;
+    relate_in_columns(table, 0, relation, column, world, extent.columns);
+    for done in 0..extent.rows {
+        let row = extent.rows - 1 - done;
         table.put(row, table.row(digit(row, stride, count)));
     }
 }
 
-/// In each row all blocks or none: whether the block of the row's digit is in the set.
+/// In each row all columns or none: whether the block of the row's digit is in the set.
 fn deal_members(table: &mut Table, set: BlockSet, stride: u32, world: &World, rows: u32)
     requires some { 0 < length world.now }
     requires few { rows ≤ 512 }
@@ -113,24 +122,24 @@ fn deal_members(table: &mut Table, set: BlockSet, stride: u32, world: &World, ro
     }
 }
 
-/// In each row all blocks or none: whether the block of the one digit stands so to that of the other. They are dealt out as
+/// In each row all columns or none: whether the block of the one digit stands so to that of the other. They are dealt out as
 /// above.
 fn deal_pairs(
     table: &mut Table,
-    predicate: Predicate,
+    relation: Relation,
     first: u32,
     second: u32,
     world: &World,
-    rows: u32,
+    extent: Extent,
 )
     requires some { 0 < length world.now }
-    requires few { rows ≤ 512 }
-    ensures value { AreExtensions world.now rows (value_by world.now (Says predicate (Two (ref.ByRow first) (ref.ByRow second)))) table.new }
+    requires few { extent.rows ≤ 512 }
+    ensures value { AreExtensions extent.columns extent.rows (value_by world.now (Two relation (ref.ByRow first) (ref.ByRow second))) table.new }
 {
     let count = block_count(world);
-    relate(table, predicate, world);
-    for done in 0..rows {
-        let row = rows - 1 - done;
+    relate(table, 0, relation, world);
+    for done in 0..extent.rows {
+        let row = extent.rows - 1 - done;
         let set = table.row(digit(row, second, count));
         table.put(
             row,
@@ -139,11 +148,25 @@ fn deal_pairs(
     }
 }
 
-/// For each block those that stand to it as the predicate says.
-fn relate(sets: &mut Table, predicate: Predicate, world: &World)
-    ensures value { ArePairs world.now predicate sets.new }
+/// From the row on, for each block the columns in whose digit of this place value is a block that stands so to it.
+pub(crate) fn relate_in_columns(
+    sets: &mut Table,
+    first: u32,
+    relation: Relation,
+    stride: u32,
+    world: &World,
+    columns: u32,
+)
+    requires some { 0 < length world.now }
+    requires few { first + length world.now ≤ 512 }
+    requires narrow { columns ≤ 64 }
+    ensures value { ArePairsInColumns world.now relation stride columns first sets.new }
+    ensures before { (r : ℕ) → r < first → bits_in sets.new r ≡ bits_in sets.old r }
 {
-    for place in 0..block_count(world) {
-        sets.put(place, world.related(predicate, place + 1));
+    relate(sets, first, relation, world);
+    let count = block_count(world);
+    for place in 0..count {
+        let set = sets.row(first + place);
+        sets.put(first + place, spread(set, stride, count, columns));
     }
 }

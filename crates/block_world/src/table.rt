@@ -1,13 +1,12 @@
 ghost use Rattle.std.specs.Prelude.{◌≡◌, ◌<◌, ◌≤◌, ◌≢◌, ◌*◌, ◌+◌, ℕ};
-ghost use Rattle.block_world.specs.Tables.{bits_in, IsComplement, IsGroup, IsJoin};
+ghost use Rattle.block_world.specs.Tables.{bits_in, IsComplement, IsGroup, IsJoin, AreGathered};
 
 use crate::block_set::BlockSet;
+use crate::columns::gathered;
 use crate::junction::{Connective, Junction};
 
-/// How many rows a table has.
-pub(crate) const ROWS: u32 = 512;
-
-/// A set of blocks in each row, of which the first ones are in use, as many as is said.
+/// Truth values in 512 rows of 64 columns, of which the first ones are in use, as many as is said. In each row stands the set
+/// of the columns in which the value is true.
 #[derive(Clone, Copy)]
 pub struct Table {
     rows: [BlockSet; 512],
@@ -71,6 +70,19 @@ impl Table {
     {
         for row in 0..rows {
             self.put(row, self.joined(junction, row * count, count));
+        }
+    }
+
+    /// In each of the first rows and columns what the junction makes of a group of columns, so many to a group, one group after
+    /// the other.
+    pub(crate) fn gather(&mut self, junction: Junction, rows: u32, columns: u32, count: u32)
+        requires few { rows ≤ 512 }
+        requires narrow { columns * count ≤ 64 }
+        requires some { 0 < count }
+        ensures value { (r : ℕ) → r < rows → AreGathered junction columns count (bits_in self.old r) (bits_in self.new r) }
+    {
+        for row in 0..rows {
+            self.put(row, gathered(junction, self.row(row), columns, count));
         }
     }
 

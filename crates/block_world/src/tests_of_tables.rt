@@ -37,20 +37,44 @@ const SAID: &[&str] = &[
     "(Small(x1) & /z (Between(x1,x2,z) | Adjoins(z,x3)) & @x2 ~Larger(x2,x3))",
 ];
 
+/// What is said of pairs, and of three blocks in each order.
+const SAID_IN_A_CROWD: &[&str] = &[
+    "x1 = x2",
+    "x2 = x3",
+    "LeftOf(x1,x2)",
+    "SameCol(x3,x2)",
+    "Between(x1,x2,x3)",
+    "Between(x1,x3,x2)",
+    "Between(x2,x1,x3)",
+    "Between(x2,x3,x1)",
+    "Between(x3,x1,x2)",
+    "Between(x3,x2,x1)",
+    "Between(x2,x2,x1)",
+    "Between(x3,a,x2)",
+    "Between(a,x1,x3)",
+];
+
+/// Ten blocks: nine in a square of three rows, and one in a line with the middle one.
+const CROWD: &[u8] =
+    b"world 1\n- cube small 2 1\n- cube small 3 1\n- cube small 4 1\n- tet small 2 2\na tet small 3 2\n- tet small 4 2\n- cube large 2 3\n- cube large 3 3\n- cube large 4 3\n- tet large 6 5\n";
+
 /// Quantifiers of these variables, and of others around them and between them.
 const QUANTIFIERS: &[&str] = &[
     "@x1 @x2 @x3",
     "@x3 @x2 @x1",
+    "@x2 @x3 @x1",
     "@z @x1 @x2 @x3",
     "@z @w @x3 @x2 @x1",
+    "@z @w @v @x2 @x3 @x1",
 ];
 
-/// More variables than a table has rows for.
-const TWELVE: &str = "/x1 /x2 /x3 /x4 /x5 /x6 /x7 /x8 /x9 /x10 /x11 /x12";
+/// More variables than a table has columns and rows for.
+const SEVENTEEN: &str =
+    "/x1 /x2 /x3 /x4 /x5 /x6 /x7 /x8 /x9 /x10 /x11 /x12 /x13 /x14 /x15 /x16 /x17";
 
 /// Each of them stands for one of two blocks.
 const PINNED: &str =
-    "x1 = a & x2 = b & x3 = b & x4 = a & x5 = b & x6 = a & x7 = a & x8 = a & x9 = b & x10 = b & x11 = a & x12 = b";
+    "x1 = a & x2 = b & x3 = b & x4 = a & x5 = b & x6 = a & x7 = a & x8 = a & x9 = b & x10 = b & x11 = a & x12 = b & x13 = a & x14 = b & x15 = b & x16 = b & x17 = a";
 
 /// The blocks of the three variables in turn.
 const BLOCKS: [[u32; 3]; 4] = [[1, 2, 3], [3, 1, 2], [4, 2, 5], [6, 5, 5]];
@@ -114,23 +138,23 @@ fn disagreement(alloc: Global, w: &World, said: &str) -> Result<Option<&'static 
 #[test]
 fn tables_and_single_blocks_agree(rt: HostRuntime) -> Result<(), Fail> {
     let alloc = rt.alloc();
-    for text in [BOARD, LINES] {
+    for (text, sentences) in [(BOARD, SAID), (LINES, SAID), (CROWD, SAID_IN_A_CROWD)] {
         let w = world(alloc, text)?;
-        for said in SAID {
+        for said in sentences {
             assert_eq!(rt; disagreement(alloc, &w, said)?, None, "at {said}");
         }
     }
     Ok(())
 }
 
-/// Twelve variables over two blocks, of which each stands for the one or the other, and for no third.
+/// Seventeen variables over two blocks, of which each stands for the one or the other, and for no third.
 #[test]
 fn each_variable_has_its_digit(rt: HostRuntime) -> Result<(), Fail> {
     let alloc = rt.alloc();
     let w = world(alloc, b"world 1\na cube small 1 1\nb tet small 2 1\n")?;
-    let text = format!(in alloc; "{TWELVE} ({PINNED})")?;
+    let text = format!(in alloc; "{SEVENTEEN} ({PINNED})")?;
     assert_eq!(rt; answer(alloc, &w, text.as_str())?, "true");
-    for variable in 1..13 {
+    for variable in 1..18 {
         for (said, value) in [
             (
                 format!(in alloc; "(Cube(x{variable}) % x{variable} = a)")?,
@@ -141,7 +165,7 @@ fn each_variable_has_its_digit(rt: HostRuntime) -> Result<(), Fail> {
                 "false",
             ),
         ] {
-            let text = format!(in alloc; "{TWELVE} ({PINNED} & {said})")?;
+            let text = format!(in alloc; "{SEVENTEEN} ({PINNED} & {said})")?;
             assert_eq!(rt; answer(alloc, &w, text.as_str())?, value, "at {text}");
         }
     }

@@ -1,4 +1,4 @@
-ghost use Rattle.std.specs.Prelude.{◌≡◌, map};
+ghost use Rattle.std.specs.Prelude.{◌≡◌, ◌+◌, length, map};
 ghost use Rattle.std.specs.List.{list_all, list_any};
 ghost use Rattle.block_world.specs.Predicates as predicates;
 ghost use Rattle.block_world.specs.Assignments.{own_names, put, block_of as stands_for};
@@ -12,7 +12,8 @@ use crate::block::Block;
 use crate::block_set::BlockSet;
 use crate::board::{World, block_count};
 use crate::bound::{Bound, number};
-use crate::extension::extend;
+use crate::extension::tabulate;
+use crate::extent::Extent;
 use crate::predicate::predicate_of;
 use crate::table::Table;
 use fol_core::{Ident, Sent, Term};
@@ -78,12 +79,19 @@ fn is_true_of_some(x: &Ident, s: &Sent, world: &World, places: &[Place]) -> bool
 
 /// The blocks for which the sentence is true where the variable stands for them.
 fn blocks_for(x: &Ident, s: &Sent, world: &World, places: &[Place]) -> BlockSet
-    ensures value { IsExtension world.now (λ k. truth.val world.now (put x.now k (given places.now (own_names world.now))) s.now) result.bits }
+    ensures value { IsExtension (length world.now) (λ c. truth.val world.now (put x.now (c + 1) (given places.now (own_names world.now))) s.now) result.bits }
 {
-    let mut table = Table::EMPTY;
-    if block_count(world) > 0 {
-        extend(&mut table, s, world, &Bound::Each(&*x, &*places), 1);
+    let count = block_count(world);
+    if count == 0 {
+        return BlockSet::EMPTY;
     }
+    let mut table = Table::EMPTY;
+    let given = Bound::Given(&*places);
+    let row = Extent {
+        rows: 1,
+        columns: count,
+    };
+    tabulate(&mut table, s, world, &Bound::ByColumn(&*x, &given), row);
     table.row(0)
 }
 

@@ -1,28 +1,28 @@
-use Rattle.std.proofs.Common.{◌≡◌, ℕ, ◌+◌, ◌-◌, ◌<◌, [], ◌∷◌, length, ap, sym, ◌∙◌, subst, arith}
-use Rattle.std.specs.Prelude.{◌/◌, Some}
+use Rattle.std.proofs.Common.{◌≡◌, ℕ, ◌+◌, ◌-◌, ◌<◌, length, ap, sym, ◌∙◌, subst, arith}
+use Rattle.std.specs.Prelude.{◌/◌}
 use Rattle.std.proofs.lemmas.Nat.{mod_below}
+use Rattle.block_world.specs.BlockSets.{IsExtension}
 use Rattle.block_world.specs.Digits.{digit_of}
-use Rattle.block_world.specs.Predicates.{says}
-use Rattle.block_world.specs.Scales.{IsSetOf}
+use Rattle.block_world.specs.Relations.{relates}
 use Rattle.block_world.specs.Tables.{bits_in}
-use Rattle.block_world.specs.Worlds.{block_at}
 use Rattle.block_world.proofs.Dealing.{none_dealt, more_dealt, digit_before}
-use Rattle.block_world.proofs.Pairing.{said_by_digit}
 use Rattle.block_world.proofs.pairs.deal_by_digit.Goals as goal
 
 pub loop-done-init : goal.loop-done-init
-loop-done-init c = none_dealt _ _ c.args.rows c.relate.new.sets (λ r _ l. c.relate.ensures.value r l)
+loop-done-init c = none_dealt _ _ c.args.extent.rows c.relate_in_columns.new.sets (λ r _ l.
+    let w = c.args.world.now in
+    subst (λ (j : ℕ). IsExtension c.args.extent.columns (λ k. relates w c.args.relation (digit_of (length w) c.args.column k + 1) (r + 1)) (bits_in c.relate_in_columns.new.sets j)) (omega arith) (c.relate_in_columns.ensures.value r l))
 
 pub loop-done-preserved : goal.loop-done-preserved
 loop-done-preserved c =
     let w = c.args.world.now in
-    let row = c.args.rows - 1 - c.loop-done.done in
+    let row = c.args.extent.rows - 1 - c.loop-done.done in
     let digit = digit_of (length w) c.args.stride row in
     let is : c.digit.result ≡ digit = c.digit.ensures.value ∙ ap (λ (n : ℕ). digit_of n c.args.stride row) c.block_count-count.ensures.value in
-    let set = c.loop-done.invariant.rest c.digit.result (subst (λ (n : ℕ). n + c.loop-done.done < c.args.rows) (sym is) (digit_before (length w) c.args.stride c.args.rows c.loop-done.done c.loop-done-test.true))
+    let set = c.loop-done.invariant.rest c.digit.result (subst (λ (n : ℕ). n + c.loop-done.done < c.args.extent.rows) (sym is) (digit_before (length w) c.args.stride c.args.extent.rows c.loop-done.done c.loop-done-test.true))
     (subst (λ (n : ℕ). n < length w) (sym is) (mod_below (row / c.args.stride) (length w) c.requires.some)) in
-    more_dealt _ _ c.args.rows c.loop-done.done _ c.loop-done.table c.put.new.self c.loop-done-test.true c.loop-done.invariant (c.put.ensures.here ∙ c.row.ensures.value) c.put.ensures.elsewhere
-    (said_by_digit w c.args.predicate c.args.stride row _ (subst (λ (n : ℕ). IsSetOf w (λ b. says c.args.predicate (Some b ∷ block_at w (n + 1) ∷ [])) (bits_in c.loop-done.table c.digit.result)) is set))
+    more_dealt _ _ c.args.extent.rows c.loop-done.done _ c.loop-done.table c.put.new.self c.loop-done-test.true c.loop-done.invariant (c.put.ensures.here ∙ c.row.ensures.value) c.put.ensures.elsewhere
+    (subst (λ (n : ℕ). IsExtension c.args.extent.columns (λ k. relates w c.args.relation (digit_of (length w) c.args.column k + 1) (n + 1)) (bits_in c.loop-done.table c.digit.result)) is set)
 
 pub returns : goal.returns
 returns c = record { value = λ r l. c.loop-done.invariant.done r (omega (arith, c.loop-done-test.false)) l }

@@ -1,8 +1,0 @@
-use Rattle.block_world.proofs.Filling.{none_filled, more_filled}
-use Rattle.block_world.proofs.atomic.Atomic.extend_each.Goals as goal
-
-pub loop-row-init : goal.loop-row-init
-loop-row-init c = none_filled _ c.args.table.now
-
-pub loop-row-preserved : goal.loop-row-preserved
-loop-row-preserved c = more_filled _ c.args.table.now c.loop-row.table c.put.new.self c.loop-row.row _ c.loop-row.invariant c.put.ensures.here c.put.ensures.elsewhere c.extension.ensures.value

@@ -1,0 +1,21 @@
+use Rattle.std.proofs.Common.{◌≡◌, ℕ, ◌+◌, [], ◌∷◌, rules, subst, sym, refl}
+use Rattle.block_world.specs.declared.atomic.Atomic.TheVariants.{One}
+use Rattle.block_world.specs.declared.digits.Referent.TheVariants.{ByColumn}
+use Rattle.block_world.specs.BlockSets.{IsExtension}
+use Rattle.block_world.specs.Predicates.{says, says_of_one}
+use Rattle.block_world.specs.Referents.{value_by}
+use Rattle.block_world.specs.Worlds.{block_at}
+use Rattle.block_world.proofs.Pairing.{spread_extends}
+use Rattle.block_world.proofs.Scaling.{set_extends}
+use Rattle.block_world.proofs.atomic.Atomic.in_columns.Goals as goal
+
+pub returns-in-One-default-ByColumn : goal.returns-in-One-default-ByColumn
+returns-in-One-default-ByColumn c =
+    let w = c.args.world.now in
+    let arm = c.in-One-default-ByColumn in
+    let self_is : c.args.self ≡ One arm.predicate (ByColumn arm.stride) = search rules in
+    let set = set_extends w (says_of_one arm.predicate) (λ o. says arm.predicate (o ∷ [])) c.having.result.bits c.having.ensures.value (λ b. refl) in
+    record {
+      value = subst (λ a. IsExtension c.args.columns (value_by w a 0) c.spread.result.bits) (sym self_is)
+          (spread_extends w (λ (j : ℕ). says arm.predicate (block_at w (j + 1) ∷ [])) c.having.result.bits c.spread.result.bits arm.stride c.args.columns c.block_count-count.result c.requires.some c.block_count-count.ensures.few c.block_count-count.ensures.value set c.spread.ensures.value);
+    }

@@ -1,0 +1,18 @@
+use Rattle.std.proofs.Common.{ℕ, ◌+◌, length, arith, subst, sym}
+use Rattle.block_world.specs.BlockSets.{IsExtension}
+use Rattle.block_world.specs.Relations.{relates}
+use Rattle.block_world.proofs.Grouping.{none_grouped, more_grouped}
+use Rattle.block_world.proofs.Pairing.{spread_extends}
+use Rattle.block_world.proofs.pairs.relate_in_columns.Goals as goal
+
+pub loop-place-init : goal.loop-place-init
+loop-place-init c = none_grouped _ _ c.args.first c.args.sets.now c.relate.new.sets c.relate.ensures.value c.relate.ensures.before
+
+pub loop-place-preserved : goal.loop-place-preserved
+loop-place-preserved c =
+    let w = c.args.world.now in
+    let place = c.loop-place.place in
+    let f = λ (k : ℕ). relates w c.args.relation (k + 1) (place + 1) in
+    more_grouped _ _ c.args.first c.args.sets.now c.loop-place.sets c.put.new.self place _ c.loop-place.invariant c.put.ensures.here c.put.ensures.elsewhere
+    (spread_extends w f c.row-set.result.bits c.spread.result.bits c.args.stride c.args.columns c.block_count-count.result c.requires.some c.block_count-count.ensures.few c.block_count-count.ensures.value
+    (subst (λ (bits : ℕ). IsExtension (length w) f bits) (sym c.row-set.ensures.value) (c.loop-place.invariant.rest place (omega arith) (omega (arith, c.loop-place-test.true, c.block_count-count.ensures.value)))) c.spread.ensures.value)

@@ -1,0 +1,17 @@
+-- What is said of two blocks, by their numbers.
+use Rattle.std.specs.Prelude.{ℕ, Bool, ◌==◌, List, [], ◌∷◌}
+use Rattle.block_world.specs.declared.block.Block.{Block}
+use Rattle.block_world.specs.declared.predicate.Predicate.TheVariants as predicate
+use Rattle.block_world.specs.declared.relation.Relation.{Relation}
+use Rattle.block_world.specs.declared.relation.Relation.TheVariants.{Same, Says, Between, Behind, Around}
+use Rattle.block_world.specs.Predicates.{says}
+use Rattle.block_world.specs.Worlds.{block_at}
+
+-- That both are one; what a predicate says of them; and with a third block, that the first stands between the others, that the
+-- second does, and that the third does.
+abbrev pub relates : List Block → Relation → ℕ → ℕ → Bool
+relates w Same m n = m == n
+relates w (Says q) m n = says q (block_at w m ∷ block_at w n ∷ [])
+relates w (Between d) m n = says predicate.Between (block_at w m ∷ block_at w n ∷ block_at w d ∷ [])
+relates w (Behind d) m n = says predicate.Between (block_at w n ∷ block_at w m ∷ block_at w d ∷ [])
+relates w (Around d) m n = says predicate.Between (block_at w d ∷ block_at w m ∷ block_at w n ∷ [])

@@ -1,0 +1,77 @@
+ghost use Rattle.std.specs.Prelude.{◌≡◌, ◌<◌, ◌≤◌, length};
+ghost use Rattle.block_world.specs.BlockSets.{IsExtension};
+ghost use Rattle.block_world.specs.Referents.{value_by};
+
+use crate::atomic::Atomic;
+use crate::block_set::BlockSet;
+use crate::board::{World, block_count};
+use crate::columns::spread;
+use crate::digits::Referent::{ByColumn, One};
+use crate::relation::stands_between;
+
+impl Atomic {
+    /// The columns of the first row, among the first ones, in which it is true.
+    pub(crate) fn in_columns(self, world: &World, columns: u32) -> BlockSet
+        requires some { 0 < length world.now }
+        requires narrow { columns ≤ 64 }
+        ensures value { IsExtension columns (value_by world.now self 0) result.bits }
+    {
+        let count = block_count(world);
+        match self {
+            Atomic::One(predicate, ByColumn(stride)) => {
+                spread(world.having(predicate), stride, count, columns)
+            }
+            Atomic::Two(relation, ByColumn(stride), One(n)) => {
+                spread(relation.related(n, world), stride, count, columns)
+            }
+            Atomic::Two(relation, One(m), ByColumn(stride)) => {
+                spread(
+                    relation.converse().related(m, world),
+                    stride,
+                    count,
+                    columns,
+                )
+            }
+            Atomic::One(_, One(_)) | Atomic::Two(_, One(_), One(_)) => {
+                BlockSet::all_or_none(self.holds(0, world))
+            }
+            _ => self.in_each_column(world, columns),
+        }
+    }
+
+    /// The same, asked of one column after the other.
+    fn in_each_column(self, world: &World, columns: u32) -> BlockSet
+        requires some { 0 < length world.now }
+        requires narrow { columns ≤ 64 }
+        ensures value { IsExtension columns (value_by world.now self 0) result.bits }
+    {
+        let mut set = BlockSet::EMPTY;
+        for column in 0..columns {
+            set = set.with(column, self.holds(column, world));
+        }
+        set
+    }
+
+    /// Whether it is true in the first row and the column.
+    fn holds(self, column: u32, world: &World) -> bool
+        requires some { 0 < length world.now }
+        ensures value { result ≡ value_by world.now self 0 column }
+    {
+        let count = block_count(world);
+        match self {
+            Atomic::One(predicate, s) => match world.block(s.number(column, count)) {
+                Some(b) => predicate.says_of_one(&b),
+                None => false,
+            },
+            Atomic::Two(relation, s, t) => {
+                relation.holds(s.number(column, count), t.number(column, count), world)
+            }
+            Atomic::Three(s, t, u) => stands_between(
+                s.number(column, count),
+                t.number(column, count),
+                u.number(column, count),
+                world,
+            ),
+        }
+    }
+}
