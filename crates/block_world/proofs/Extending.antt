@@ -15,7 +15,7 @@ use Rattle.block_world.specs.declared.junction.Junction.{Junction}
 use Rattle.block_world.specs.declared.junction.Junction.TheVariants.{Every, Any}
 use Rattle.block_world.specs.declared.table.Table.{Table}
 use Rattle.block_world.specs.Assignments.{Assignment, put}
-use Rattle.block_world.specs.BlockSets.{has, HasAll, LacksOne, HasOne, HasNone, IsExtension}
+use Rattle.block_world.specs.BitSets.{has, HasAll, LacksOne, HasOne, HasNone, IsExtension}
 use Rattle.block_world.specs.Bound.{standing}
 use Rattle.block_world.specs.Tables.{bits_in, connect, join_two, joined, of_none, AreExtensions, AreGathered, IsGroup, IsJoin}
 use Rattle.block_world.specs.Truth.{val}

@@ -23,7 +23,9 @@ pub mod Saturating
 pub mod Saying
 pub mod Scaling
 pub mod Sets
+pub mod Spreading
 pub mod Squaring
 pub mod Standings
+pub mod Strictness
 pub mod Swapping
 pub mod Wording

@@ -2,7 +2,7 @@
 use Rattle.std.proofs.Common.{◌≡◌, ◌≢◌, ℕ, ◌+◌, ◌<◌, ◌≤◌, Bool, false, sym, ap, ◌∙◌, subst, arith, ◌⊎◌, inl, inr}
 use Rattle.std.specs.Prelude.{◌||◌}
 use Rattle.std.proofs.lemmas.Bool.{cases_order}
-use Rattle.block_world.specs.BlockSets.{has, IsExtension}
+use Rattle.block_world.specs.BitSets.{has, IsExtension}
 use Rattle.block_world.proofs.Sets.{empty_has}
 
 -- Of the first places, so many, the set has those of which the function is true, and it has no further ones.

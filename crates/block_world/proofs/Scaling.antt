@@ -3,25 +3,26 @@ use Rattle.std.proofs.Common.{◌≡◌, ℕ, zero, suc, ◌+◌, ◌-◌, ◌^�
 use Rattle.std.specs.Prelude.{◌&&◌, ◌||◌, ◌==◌, nat_lt, nat_le, Option, Some, None}
 use Rattle.std.specs.List.{slice_get, list_all}
 use Rattle.std.proofs.lemmas.Option.{slice_get_within, slice_get-get_or, same_Some}
-use Rattle.std.proofs.lemmas.Bool.{leb-true, lt-ltb, ltb-true, le-ltb, eq-eqb, ne_eqb, and_parts, cases_order}
+use Rattle.std.proofs.lemmas.Bool.{leb-true, lt-ltb, ltb-true, le-ltb, le-leb, lt-leb, eq-eqb, ne_eqb, eqb-true, eqb-false, and_parts, cases_lt, cases_order}
 use Rattle.block_world.specs.declared.block.Block.{Block}
 use Rattle.block_world.specs.declared.block.Shape.{Shape}
 use Rattle.block_world.specs.declared.block.Shape.TheVariants as sh
 use Rattle.block_world.specs.declared.block.Size.{Size}
 use Rattle.block_world.specs.declared.block.Size.TheVariants as sz
-use Rattle.block_world.specs.declared.block_set.BlockSet.{BlockSet}
+use Rattle.block_world.specs.declared.bit_set.BitSet.{BitSet}
 use Rattle.block_world.specs.declared.scales.Measure.{Measure}
 use Rattle.block_world.specs.declared.scales.Measure.TheVariants as m
-use Rattle.block_world.specs.BlockSets.{has, IsExtension}
-use Rattle.block_world.specs.Geometry.{is_on_board, is_place, faces, rank, apart}
+use Rattle.block_world.specs.BitSets.{has, IsExtension}
+use Rattle.block_world.specs.Geometry.{is_on_board, is_place, faces, rank, apart, share_side}
 use Rattle.block_world.specs.Scales.{measure_of, OfEach, IsSetOf, AreBelow}
+use Rattle.block_world.specs.Truth.{are_alike}
 use Rattle.block_world.specs.Worlds.{block_at}
 use Rattle.block_world.proofs.Marking.{IsMarked}
 use Rattle.block_world.proofs.Sets.{full_has}
 
 -- scales
 
-at_scale : (w : List Block) (f : Block → ℕ) (n i : ℕ) (sets : List BlockSet) (set : BlockSet) → AreBelow w f n sets → slice_get sets i ≡ Some set → IsSetOf w (λ b. nat_lt (f b) (n + i)) set.bits
+at_scale : (w : List Block) (f : Block → ℕ) (n i : ℕ) (sets : List BitSet) (set : BitSet) → AreBelow w f n sets → slice_get sets i ≡ Some set → IsSetOf w (λ b. nat_lt (f b) (n + i)) set.bits
 at_scale w f n i [] set h e = absurd (cc)
 at_scale w f n zero (s ∷ ss) set h e = subst (λ t. IsSetOf w (λ b. nat_lt (f b) (n + 0)) t.bits) (same_Some s set e) (subst (λ j. IsSetOf w (λ b. nat_lt (f b) j) s.bits) (omega arith) h.0)
 at_scale w f n (suc i) (s ∷ ss) set h e = subst (λ j. IsSetOf w (λ b. nat_lt (f b) j) set.bits) (omega arith) (at_scale w f (n + 1) i ss set h.1 e)
@@ -29,16 +30,16 @@ at_scale w f n (suc i) (s ∷ ss) set h e = subst (λ j. IsSetOf w (λ b. nat_lt
 more_than : (m n k : ℕ) → nat_lt m n ≡ true → n ≤ k → nat_lt m k ≡ true
 more_than m n k h l = lt-ltb m k (omega (arith, ltb-true m n h, l))
 
-past_scale : (w : List Block) (f : Block → ℕ) (n i : ℕ) (sets : List BlockSet) → AreBelow w f n sets → slice_get sets i ≡ None → OfEach w (λ k b. nat_lt (f b) (n + i) ≡ true)
+past_scale : (w : List Block) (f : Block → ℕ) (n i : ℕ) (sets : List BitSet) → AreBelow w f n sets → slice_get sets i ≡ None → OfEach w (λ k b. nat_lt (f b) (n + i) ≡ true)
 past_scale w f n i [] h e = λ k b g l. more_than (f b) n (n + i) (h k b g l) (omega arith)
 past_scale w f n zero (s ∷ ss) h e = absurd (cc)
 past_scale w f n (suc i) (s ∷ ss) h e = λ k b g l. subst (λ j. nat_lt (f b) j ≡ true) (omega arith) (past_scale w f (n + 1) i ss h.1 e k b g l)
 
 -- the set at a number, which is full past the end
-pub on_scale : (w : List Block) (f : Block → ℕ) (i : ℕ) (sets : List BlockSet) (set : BlockSet) → AreBelow w f 0 sets → slice_get sets i ≡ Some set → IsSetOf w (λ b. nat_lt (f b) i) set.bits
+pub on_scale : (w : List Block) (f : Block → ℕ) (i : ℕ) (sets : List BitSet) (set : BitSet) → AreBelow w f 0 sets → slice_get sets i ≡ Some set → IsSetOf w (λ b. nat_lt (f b) i) set.bits
 on_scale w f i sets set h e = subst (λ j. IsSetOf w (λ b. nat_lt (f b) j) set.bits) (omega arith) (at_scale w f 0 i sets set h e)
 
-pub off_scale : (w : List Block) (f : Block → ℕ) (i : ℕ) (sets : List BlockSet) → AreBelow w f 0 sets → slice_get sets i ≡ None → IsSetOf w (λ b. nat_lt (f b) i) (2 ^ 64 - 1)
+pub off_scale : (w : List Block) (f : Block → ℕ) (i : ℕ) (sets : List BitSet) → AreBelow w f 0 sets → slice_get sets i ≡ None → IsSetOf w (λ b. nat_lt (f b) i) (2 ^ 64 - 1)
 off_scale w f i sets h e k b g l = full_has k l ∙ sym (subst (λ j. nat_lt (f b) j ≡ true) (omega arith) (past_scale w f 0 i sets h e k b g l))
 
 -- no block of a world measures more than 16
@@ -112,30 +113,57 @@ set_extends w f g bits h same k l low = by_block (slice_get w k) refl
 
 -- what is made of the sets of those that measure less
 
-next_fact : (m n : ℕ) → (nat_lt m (n + 2) && not (nat_lt m (n - 1) || (m == n))) ≡ (apart m n == 1)
-next_fact m n = elim (cases_order m n) [
-  | inl e ↦ rw (lt-ltb m (n + 2) (omega (arith, e))) (rw (le-ltb m (n - 1) (omega (arith, e))) (rw (eq-eqb m n e) (sym (ne_eqb (apart m n) 1 (λ d. absurd (omega (arith, e, d)))))))
-  | inr other ↦ by_side other
+near_fact : (m n : ℕ) → (nat_lt m (n + 2) && not (nat_lt m (n - 1))) ≡ nat_le (apart m n) 1
+near_fact m n = elim (cases_lt m (n + 2)) [
+  | inr high ↦ rw (le-ltb m (n + 2) high) (sym (lt-leb (apart m n) 1 (omega (arith, high))))
+  | inl low ↦ rw (lt-ltb m (n + 2) low) (by_less (cases_lt m (n - 1)) low)
 ]
   where
-    less : m < n → (m + 1 ≡ n) ⊎ ((m + 1 < n) ⊎ (n < m + 1)) → (nat_lt m (n + 2) && not (nat_lt m (n - 1) || (m == n))) ≡ (apart m n == 1)
-    less h (inl e) = rw (lt-ltb m (n + 2) (omega (arith, h))) (rw (le-ltb m (n - 1) (omega (arith, e))) (rw (ne_eqb m n (λ d. absurd (omega (arith, h, d)))) (sym (eq-eqb (apart m n) 1 (omega (arith, e))))))
-    less h (inr (inl l)) = rw (lt-ltb m (n + 2) (omega (arith, h))) (rw (lt-ltb m (n - 1) (omega (arith, l))) (sym (ne_eqb (apart m n) 1 (λ d. absurd (omega (arith, l, d))))))
-    less h (inr (inr l)) = absurd (omega (arith, h, l))
+    by_less : (m < n - 1) ⊎ (n - 1 ≤ m) → m < n + 2 → not (nat_lt m (n - 1)) ≡ nat_le (apart m n) 1
+    by_less (inl less) low = rw (lt-ltb m (n - 1) less) (sym (lt-leb (apart m n) 1 (omega (arith, less))))
+    by_less (inr more) low = rw (le-ltb m (n - 1) more) (sym (le-leb (apart m n) 1 (omega (arith, low, more))))
 
-    more : n < m → (n + 1 ≡ m) ⊎ ((n + 1 < m) ⊎ (m < n + 1)) → (nat_lt m (n + 2) && not (nat_lt m (n - 1) || (m == n))) ≡ (apart m n == 1)
-    more h (inl e) = rw (lt-ltb m (n + 2) (omega (arith, e))) (rw (le-ltb m (n - 1) (omega (arith, h))) (rw (ne_eqb m n (λ d. absurd (omega (arith, h, d)))) (sym (eq-eqb (apart m n) 1 (omega (arith, e))))))
-    more h (inr (inl l)) = rw (le-ltb m (n + 2) (omega (arith, l))) (sym (ne_eqb (apart m n) 1 (λ d. absurd (omega (arith, l, d)))))
-    more h (inr (inr l)) = absurd (omega (arith, h, l))
+pub near_set : (w : List Block) (f : Block → ℕ) (n most less rest r : ℕ) → IsSetOf w (λ x. nat_lt (f x) (n + 2)) most → IsSetOf w (λ x. nat_lt (f x) (n - 1)) less → ((k : ℕ) → k < 64 → has rest k ≡ not (has less k)) →
+    ((k : ℕ) → has r k ≡ (has most k && has rest k)) → IsSetOf w (λ x. nat_le (apart (f x) n) 1) r
+near_set w f n most less rest r h g lacks both k x e l = both k ∙ ap₂ (λ p q. p && q) (h k x e l) (lacks k l ∙ ap not (g k x e l)) ∙ near_fact (f x) n
 
-    by_side : (m < n) ⊎ (n < m) → (nat_lt m (n + 2) && not (nat_lt m (n - 1) || (m == n))) ≡ (apart m n == 1)
-    by_side (inl h) = less h (cases_order (m + 1) n)
-    by_side (inr h) = more h (cases_order (n + 1) m)
+-- who is near and not the same is one apart
+one_apart : (m n : ℕ) → (m == n) ≡ false → nat_le (apart m n) 1 ≡ (apart m n == 1)
+one_apart m n other = elim (cases_order (apart m n) 1) [
+  | inl e ↦ le-leb (apart m n) 1 (omega (arith, e)) ∙ sym (eq-eqb (apart m n) 1 e)
+  | inr (inl less) ↦ absurd (eqb-false m n other (omega (arith, less)))
+  | inr (inr more) ↦ lt-leb (apart m n) 1 more ∙ sym (ne_eqb (apart m n) 1 (λ e. absurd (omega (arith, e, more))))
+]
 
-pub next_set : (w : List Block) (f : Block → ℕ) (n most less same joint rest r : ℕ) → IsSetOf w (λ x. nat_lt (f x) (n + 2)) most → IsSetOf w (λ x. nat_lt (f x) (n - 1)) less → IsSetOf w (λ x. f x == n) same →
-    ((k : ℕ) → has joint k ≡ (has less k || has same k)) → ((k : ℕ) → k < 64 → has rest k ≡ not (has joint k)) → ((k : ℕ) → has r k ≡ (has most k && has rest k)) → IsSetOf w (λ x. apart (f x) n == 1) r
-next_set w f n most less same joint rest r h g i either lacks both k x e l =
-    both k ∙ ap₂ (λ p q. p && q) (h k x e l) (lacks k l ∙ ap not (either k ∙ ap₂ (λ p q. p || q) (g k x e l) (i k x e l))) ∙ next_fact (f x) n
+none_apart : (m n : ℕ) → (m == n) ≡ true → (apart m n == 1) ≡ false
+none_apart m n same = ne_eqb (apart m n) 1 (λ e. absurd (omega (arith, e, eqb-true m n same)))
 
-pub either_set : (w : List Block) (f g : Block → Bool) (a b r : ℕ) → IsSetOf w f a → IsSetOf w g b → ((k : ℕ) → has r k ≡ (has a k || has b k)) → IsSetOf w (λ x. f x || g x) r
-either_set w f g a b r h i either k x e l = either k ∙ ap₂ (λ p q. p || q) (h k x e l) (i k x e l)
+itself_near : (m n : ℕ) → (m == n) ≡ true → nat_le (apart m n) 1 ≡ true
+itself_near m n same = le-leb (apart m n) 1 (omega (arith, eqb-true m n same))
+
+unlike_false : (b : Bool) → not (are_alike b false) ≡ b
+unlike_false true = refl
+unlike_false false = refl
+
+or_false : (b : Bool) → (b || false) ≡ b
+or_false true = refl
+or_false false = refl
+
+not_not : (b : Bool) → not (not b) ≡ b
+not_not true = refl
+not_not false = refl
+
+side_fact : (p q m n : ℕ) → not (are_alike ((p == q) && nat_le (apart m n) 1) ((m == n) && nat_le (apart p q) 1)) ≡ (((p == q) && (apart m n == 1)) || ((m == n) && (apart p q == 1)))
+side_fact p q m n = by_tests (p == q) (m == n) refl refl
+  where
+    by_tests : (s t : Bool) → (p == q) ≡ s → (m == n) ≡ t → not (are_alike (s && nat_le (apart m n) 1) (t && nat_le (apart p q) 1)) ≡ ((s && (apart m n == 1)) || (t && (apart p q == 1)))
+    by_tests true true e i = ap₂ (λ x y. not (are_alike x y)) (itself_near m n i) (itself_near p q e) ∙ sym (ap₂ (λ x y. x || y) (none_apart m n i) (none_apart p q e))
+    by_tests true false e i = unlike_false (nat_le (apart m n) 1) ∙ one_apart m n i ∙ sym (or_false (apart m n == 1))
+    by_tests false true e i = not_not (nat_le (apart p q) 1) ∙ one_apart p q e
+    by_tests false false e i = refl
+
+pub side_set : (w : List Block) (c : Block) (row near column close in_row in_column r : ℕ) → IsSetOf w (λ x. x.row == c.row) row → IsSetOf w (λ x. nat_le (apart x.column c.column) 1) near → IsSetOf w (λ x. x.column == c.column) column →
+    IsSetOf w (λ x. nat_le (apart x.row c.row) 1) close → ((k : ℕ) → has in_row k ≡ (has row k && has near k)) → ((k : ℕ) → has in_column k ≡ (has column k && has close k)) →
+    ((k : ℕ) → has r k ≡ not (are_alike (has in_row k) (has in_column k))) → IsSetOf w (λ x. share_side x c) r
+side_set w c row near column close in_row in_column r f g h i one other apart_from k x e l =
+    apart_from k ∙ ap₂ (λ p q. not (are_alike p q)) (one k ∙ ap₂ (λ p q. p && q) (f k x e l) (g k x e l)) (other k ∙ ap₂ (λ p q. p && q) (h k x e l) (i k x e l)) ∙ side_fact x.row c.row x.column c.column

@@ -1,13 +1,16 @@
--- Sets of blocks by their bits.
+-- Sets of places by their bits.
 use Rattle.std.proofs.Common.{◌≡◌, ◌≢◌, ℕ, zero, suc, ◌+◌, ◌-◌, ◌^◌, ◌<◌, ◌≤◌, min, max, Bool, true, false, not, List, length, take, refl, sym, ap, ◌∙◌, subst, arith, w64, inl, inr}
-use Rattle.std.specs.Prelude.{◌&&◌, ◌||◌, ◌==◌, ◌%◌, ◌*◌, bit_and, bit_or, bit_xor}
+use Rattle.std.specs.Prelude.{◌&&◌, ◌||◌, ◌==◌, ◌%◌, ◌*◌, ◌/◌, nat_lt, nat_le, bit_and, bit_or, bit_xor}
 use lib.Count.{count_trailing_zeros}
 use Rattle.std.specs.Int.{bit_at, bit_not, trailing_ones, trailing_zeros}
 use Rattle.std.specs.List.{list_all, list_any}
-use Rattle.std.proofs.lemmas.Nat.Bits.{bit_at_and, bit_at_or, bit_at_xor, bit_at_not, bit_at-lt, bit_at-zero, bit_at_ones, bit_at-trailing_ones, bit_at-trailing_zeros, bit_at_set_same, bit_at_set_other}
-use Rattle.std.proofs.lemmas.Bool.{cases_lt}
+use Rattle.std.proofs.lemmas.Nat.Bits.{bit_at_cat_low, bit_at_cat_high, bit_at_and, bit_at_or, bit_at_xor, bit_at_not, bit_at-lt, bit_at-zero, bit_at_ones, bit_at_ones_above, bit_at_mask_inside, bit_at_mask_below, bit_at-trailing_ones, bit_at-trailing_zeros, bit_at_set_same, bit_at_set_other}
+use Rattle.std.proofs.lemmas.Nat.{shl_whole, pow_pos, div-add-mod'}
+use Rattle.std.proofs.Math.Nat.{pow-suc}
+use Rattle.std.proofs.Math.Pow.{pow_mono}
+use Rattle.std.proofs.lemmas.Bool.{cases_lt, lt-ltb, le-ltb, lt-leb, le-leb}
 use Rattle.block_world.specs.declared.block.Block.{Block}
-use Rattle.block_world.specs.BlockSets.{has, HasAll, LacksOne, HasOne, HasNone}
+use Rattle.block_world.specs.BitSets.{has, HasAll, LacksOne, HasOne, HasNone}
 use Rattle.block_world.specs.Truth.{are_alike}
 use Rattle.block_world.specs.Worlds.{numbers}
 use Rattle.block_world.proofs.Numbers.{all_more, any_more, all_fails, any_holds, all_taken}
@@ -114,3 +117,36 @@ zeros_none a count fits most h k l = elim (cases_lt 0 a) [
   | inl some ↦ ap (λ n. n == 1) ((bit_at-trailing_zeros w64 a some fits).2 k (omega (arith, h, l)))
   | inr none ↦ subst (λ n. has n k ≡ false) (sym (omega (arith, none))) (empty_has k)
 ]
+
+-- Places are moved by a shift, which leaves out what doesn't fit.
+pub moved_has : (a by k : ℕ) → k < 64 → has (a * 2 ^ by % 2 ^ 64) k ≡ (nat_le by k && has a (k - by))
+moved_has a by k low =
+    let m = a * 2 ^ by in
+    let fits : bit_at (m % 2 ^ 64) k ≡ bit_at m k = sym (bit_at_cat_low (m / 2 ^ 64) 64 (m % 2 ^ 64) k low) ∙ ap (λ n. bit_at n k) (omega (arith, div-add-mod' m (2 ^ 64))) in
+    let whole : bit_at m k ≡ bit_at (m + 0) k = ap (λ n. bit_at n k) (omega arith) in
+    ap (λ n. n == 1) (fits ∙ whole) ∙ elim (cases_lt k by) [
+      | inl l ↦ ap (λ n. n == 1) (bit_at_cat_low a by 0 k l ∙ bit_at-zero k) ∙ sym (ap (λ b. b && has a (k - by)) (lt-leb by k l))
+      | inr l ↦ ap (λ n. n == 1) (bit_at_cat_high a by 0 k (pow_pos by) l) ∙ sym (ap (λ b. b && has a (k - by)) (le-leb by k l))
+    ]
+
+-- The places before a place, and those after it, are the bits below and above its own.
+
+pub shift_some : (k : ℕ) → k < 64 → 1 ≤ 1 * 2 ^ k % 2 ^ 64
+shift_some k low = omega (arith, shl_whole 1 1 k 64 (omega arith) (omega (arith, low)), pow_pos k)
+
+pub before_has : (k place : ℕ) → place < 64 → has (1 * 2 ^ place % 2 ^ 64 - 1) k ≡ nat_lt k place
+before_has k place low =
+    let mask : 1 * 2 ^ place % 2 ^ 64 - 1 ≡ 2 ^ place - 1 = omega (arith, shl_whole 1 1 place 64 (omega arith) (omega (arith, low))) in
+    ap (λ n. has n k) mask ∙ elim (cases_lt k place) [
+      | inl l ↦ ap (λ n. n == 1) (bit_at_ones place k l) ∙ sym (lt-ltb k place l)
+      | inr l ↦ ap (λ n. n == 1) (bit_at_ones_above place k l) ∙ sym (le-ltb k place l)
+    ]
+
+pub after_has : (k place : ℕ) → place < 64 → k < 64 → has ((2 ^ 64 - 2) * 2 ^ place % 2 ^ 64) k ≡ nat_lt place k
+after_has k place low fits =
+    let most : suc place ≤ 64 = omega (arith, low) in
+    let mask : (2 ^ 64 - 2) * 2 ^ place % 2 ^ 64 ≡ 2 ^ 64 - 2 ^ suc place = omega (arith, pow-suc 2 place, pow_pos place, pow_mono most) in
+    ap (λ n. has n k) mask ∙ elim (cases_lt place k) [
+      | inl l ↦ ap (λ n. n == 1) (bit_at_mask_inside (suc place) 64 k (omega (arith, l)) fits) ∙ sym (lt-ltb place k l)
+      | inr l ↦ ap (λ n. n == 1) (bit_at_mask_below (suc place) 64 k (omega (arith, l))) ∙ sym (le-ltb place k l)
+    ]

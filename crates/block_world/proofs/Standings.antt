@@ -1,5 +1,5 @@
 -- What the definition of the standing of terms says of each form of bound variable.
-use Rattle.std.proofs.Common.{◌≡◌, ℕ, ◌+◌, ◌*◌, ◌<◌, min, false, List, length, ap, sym, ◌∙◌, arith, rules, inl, inr, Bor}
+use Rattle.std.proofs.Common.{◌≡◌, ℕ, ◌+◌, ◌*◌, ◌<◌, min, true, false, List, length, ap, sym, ◌∙◌, arith, rules, inl, inr, Bor}
 use Rattle.std.specs.Prelude.{◌/◌, ◌%◌, if◌then◌else◌}
 use Rattle.std.specs.Str.{bytes_eq}
 use Rattle.std.proofs.lemmas.Bool.{cases_lt}
@@ -35,6 +35,24 @@ name_past_column w bound rest x n r k e = sym (ap (λ o. number_at (standing o w
 
 pub name_past_row : (w : List Block) (bound : Bound) (rest : Bor Bound) (x : Bor Word) (n : Word) (r k : ℕ) → bound ≡ b.ByRow x rest → number_at (standing rest.now w (r / length w) k) (t.Name n) ≡ number_at (standing bound w r k) (t.Name n)
 name_past_row w bound rest x n r k e = sym (ap (λ o. number_at (standing o w r k) (t.Name n)) e ∙ ap (λ a. number_at a (t.Name n)) (standing_by_row x rest w r k))
+
+-- what stands for a variable that is the innermost one, or for which no quantifier stands
+pub at_given : (w : List Block) (bound : Bound) (places : Bor (List Place)) (x : Word) (r k : ℕ) → bound ≡ b.Given places → number_at (given places.now (own_names w)) (t.Var x) ≡ number_at (standing bound w r k) (t.Var x)
+at_given w bound places x r k e = sym (ap (λ o. number_at (standing o w r k) (t.Var x)) e ∙ ap (λ a. number_at a (t.Var x)) (standing_given places w r k))
+
+pub at_one : (w : List Block) (bound : Bound) (rest : Bor Bound) (y : Bor Word) (m : ℕ) (x : Word) (r k : ℕ) → bound ≡ b.One y m rest → bytes_eq y.now x ≡ true → m ≡ number_at (standing bound w r k) (t.Var x)
+at_one w bound rest y m x r k e same =
+    sym (ap (λ o. number_at (standing o w r k) (t.Var x)) e ∙ ap (λ a. number_at a (t.Var x)) (standing_one y m rest w r k) ∙ ap (λ c. if c then m else number_at (standing rest.now w r k) (t.Var x)) same)
+
+pub at_row : (w : List Block) (bound : Bound) (rest : Bor Bound) (y : Bor Word) (x : Word) (r k : ℕ) → bound ≡ b.ByRow y rest → bytes_eq y.now x ≡ true → r % length w + 1 ≡ number_at (standing bound w r k) (t.Var x)
+at_row w bound rest y x r k e same =
+    sym (ap (λ o. number_at (standing o w r k) (t.Var x)) e ∙ ap (λ a. number_at a (t.Var x)) (standing_by_row y rest w r k)
+    ∙ ap (λ c. if c then r % length w + 1 else number_at (standing rest.now w (r / length w) k) (t.Var x)) same)
+
+pub at_column : (w : List Block) (bound : Bound) (rest : Bor Bound) (y : Bor Word) (x : Word) (r k : ℕ) → bound ≡ b.ByColumn y rest → bytes_eq y.now x ≡ true → k % length w + 1 ≡ number_at (standing bound w r k) (t.Var x)
+at_column w bound rest y x r k e same =
+    sym (ap (λ o. number_at (standing o w r k) (t.Var x)) e ∙ ap (λ a. number_at a (t.Var x)) (standing_by_column y rest w r k)
+    ∙ ap (λ c. if c then k % length w + 1 else number_at (standing rest.now w r (k / length w)) (t.Var x)) same)
 
 -- A row or a column without its last digits, and without one more. A place value that is too great for its type leaves nothing
 -- of them.

@@ -1,9 +1,10 @@
 pub mod Geometry
-pub mod BlockSets
+pub mod BitSets
 pub mod Predicates
 pub mod Endings
 pub mod Worlds
 pub mod Scales
+pub mod BoardLines
 pub mod Invariants
 pub mod Assignments
 pub mod Places

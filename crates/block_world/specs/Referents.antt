@@ -1,13 +1,13 @@
 -- What atomic sentences say in each row and column of a table.
-use Rattle.std.specs.Prelude.{ℕ, ◌+◌, ◌<◌, Bool, List, [], ◌∷◌, Option, length}
+use Rattle.std.specs.Prelude.{ℕ, ◌+◌, ◌<◌, Bool, false, List, [], ◌∷◌, Option, length}
 use Rattle.block_world.specs.declared.block.Block.{Block}
 use Rattle.block_world.specs.declared.atomic.Atomic.{Atomic}
-use Rattle.block_world.specs.declared.atomic.Atomic.TheVariants.{One, Two, Three}
+use Rattle.block_world.specs.declared.atomic.Atomic.TheVariants.{Never, One, Two, Three}
 use Rattle.block_world.specs.declared.digits.Referent.{Referent}
 use Rattle.block_world.specs.declared.predicate.Predicate.TheVariants.{Between}
 use Rattle.block_world.specs.declared.relation.Relation.{Relation}
 use Rattle.block_world.specs.declared.table.Table.{Table}
-use Rattle.block_world.specs.BlockSets.{IsExtension}
+use Rattle.block_world.specs.BitSets.{IsExtension}
 use Rattle.block_world.specs.Digits.{digit_of, number_by}
 use Rattle.block_world.specs.Predicates.{says}
 use Rattle.block_world.specs.Relations.{relates}
@@ -20,6 +20,7 @@ block_by w s r c = block_at w (number_by (length w) s r c)
 
 -- The value of an atomic sentence.
 abbrev pub value_by : List Block → Atomic → ℕ → ℕ → Bool
+value_by w Never r c = false
 value_by w (One predicate s) r c = says predicate (block_by w s r c ∷ [])
 value_by w (Two relation s t) r c = relates w relation (number_by (length w) s r c) (number_by (length w) t r c)
 value_by w (Three s t u) r c = says Between (block_by w s r c ∷ block_by w t r c ∷ block_by w u r c ∷ [])

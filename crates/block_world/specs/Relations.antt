@@ -15,3 +15,11 @@ relates w (Says q) m n = says q (block_at w m ∷ block_at w n ∷ [])
 relates w (Between d) m n = says predicate.Between (block_at w m ∷ block_at w n ∷ block_at w d ∷ [])
 relates w (Behind d) m n = says predicate.Between (block_at w n ∷ block_at w m ∷ block_at w d ∷ [])
 relates w (Around d) m n = says predicate.Between (block_at w d ∷ block_at w m ∷ block_at w n ∷ [])
+
+-- The same with another third block, if there is one.
+abbrev pub about : Relation → ℕ → Relation
+about Same d = Same
+about (Says q) d = Says q
+about (Between c) d = Between d
+about (Behind c) d = Behind d
+about (Around c) d = Around d

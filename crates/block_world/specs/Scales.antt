@@ -1,13 +1,13 @@
 -- Blocks by what is measured of them.
-use Rattle.std.specs.Prelude.{◌≡◌, ℕ, ◌+◌, ◌-◌, ◌<◌, Bool, true, false, nat_lt, ◌==◌, ◌&&◌, List, [], ◌∷◌, Some}
+use Rattle.std.specs.Prelude.{◌≡◌, ℕ, ◌+◌, ◌-◌, ◌<◌, Bool, true, nat_lt, List, [], ◌∷◌, Some}
 use Rattle.std.specs.List.{slice_get}
 use Rattle.block_world.specs.declared.block.Block.{Block}
-use Rattle.block_world.specs.declared.block_set.BlockSet.{BlockSet}
+use Rattle.block_world.specs.declared.bit_set.BitSet.{BitSet}
 use Rattle.block_world.specs.declared.scales.Measure.{Measure}
 use Rattle.block_world.specs.declared.scales.Measure.TheVariants.{Column, Row, Rank, Faces, Rising, Falling}
 use Rattle.block_world.specs.declared.scales.Scales.{Scales}
-use Rattle.block_world.specs.BlockSets.{has}
-use Rattle.block_world.specs.Geometry.{faces, rank, is_between, is_inside, is_on_board}
+use Rattle.block_world.specs.BitSets.{has}
+use Rattle.block_world.specs.Geometry.{faces, rank}
 
 -- What is measured of a block. A diagonal that rises to the right has one difference of row and column, to which eight is
 -- added, and one that falls has one sum of them.
@@ -19,24 +19,6 @@ measure_of Faces b = faces b.shape
 measure_of Rising b = b.row + 8 - b.column
 measure_of Falling b = b.column + b.row
 
--- All three measure the same by one measure, so that they stand in one line, and the first lies between the two others by
--- another measure.
-abbrev pub lies_along : Measure → Measure → Block → Block → Block → Bool
-lies_along line place b c d =
-    measure_of line b == measure_of line c && measure_of line b == measure_of line d && is_inside (measure_of place b) (measure_of place c) (measure_of place d)
-
--- Both stand in the line of this measure, and a block stands between them, or in line with one behind the other, just where
--- this is so along the line.
-pub record IsLineOf (line place : Measure) (b c : Block) : Type 0 where
-  pub same : measure_of line b ≡ measure_of line c
-  pub between : (x : Block) → is_on_board x ≡ true → is_between x b c ≡ lies_along line place x b c
-  pub beside : (x : Block) → is_on_board x ≡ true → is_between b x c ≡ lies_along line place b x c
-
--- No block stands between both, and the first one between no block and the second.
-pub record StandInNoLine (b c : Block) : Type 0 where
-  pub between : (x : Block) → is_on_board x ≡ true → is_between x b c ≡ false
-  pub beside : (x : Block) → is_on_board x ≡ true → is_between b x c ≡ false
-
 -- The property holds of each of the first 64 blocks of a world, by the place of the block and the block.
 abbrev pub OfEach : List Block → (ℕ → Block → Type 0) → Type 0
 OfEach w P = (k : ℕ) (b : Block) → slice_get w k ≡ Some b → k < 64 → P k b
@@ -47,12 +29,12 @@ IsSetOf w f bits = OfEach w (λ k b. has bits k ≡ f b)
 
 -- The sets are, one after the other, those of the blocks that measure less than n, than n + 1 and so on, as far as some
 -- block doesn't measure less.
-abbrev pub AreBelow : List Block → (Block → ℕ) → ℕ → List BlockSet → Type 0
+abbrev pub AreBelow : List Block → (Block → ℕ) → ℕ → List BitSet → Type 0
 AreBelow w f n [] = OfEach w (λ k b. nat_lt (f b) n ≡ true)
 AreBelow w f n (set ∷ sets) = IsSetOf w (λ b. nat_lt (f b) n) set.bits × AreBelow w f (n + 1) sets
 
 -- The scale of a measure.
-abbrev pub scale_at : Scales → Measure → List BlockSet
+abbrev pub scale_at : Scales → Measure → List BitSet
 scale_at s Column = s.columns
 scale_at s Row = s.rows
 scale_at s Rank = s.ranks

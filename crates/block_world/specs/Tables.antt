@@ -6,7 +6,7 @@ use Rattle.block_world.specs.declared.junction.Connective.TheVariants.{And, Or, 
 use Rattle.block_world.specs.declared.junction.Junction.{Junction}
 use Rattle.block_world.specs.declared.junction.Junction.TheVariants.{Every, Any}
 use Rattle.block_world.specs.declared.table.Table.{Table}
-use Rattle.block_world.specs.BlockSets.{has, IsExtension}
+use Rattle.block_world.specs.BitSets.{has, IsExtension}
 use Rattle.block_world.specs.Truth.{are_alike}
 
 -- The bits of the set in a row.

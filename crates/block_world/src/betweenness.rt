@@ -1,147 +1,193 @@
-ghost use Rattle.std.specs.Prelude.{◌≡◌, true, [], ◌∷◌, IfSome, None, Some};
-ghost use Rattle.block_world.specs.Geometry.{is_inside, is_on_board, is_between};
-ghost use Rattle.block_world.specs.Predicates.{says, says_of_three};
-ghost use Rattle.block_world.specs.Scales.{measure_of, IsLineOf, IsSetOf, StandInNoLine};
-ghost use Rattle.block_world.specs.Worlds.{block_at, IsWorld};
+ghost use Rattle.std.specs.Prelude.{◌≡◌, ◌+◌, ◌<◌, ◌≤◌, ℕ, true, List, length, [], ◌∷◌, IfSome, None, Some};
+ghost use Rattle.block_world.specs.declared.block.Block.{Block as Standing};
+ghost use Rattle.block_world.specs.declared.predicate.Predicate.TheVariants.{Between};
+ghost use Rattle.block_world.specs.BitSets.{has};
+ghost use Rattle.block_world.specs.BoardLines.{line_at, AreLines};
+ghost use Rattle.block_world.specs.Predicates.{says};
+ghost use Rattle.block_world.specs.Scales.{IsSetOf};
+ghost use Rattle.block_world.specs.Tables.{bits_in};
+ghost use Rattle.block_world.specs.Worlds.{block_at};
 
-use crate::block::Block;
-use crate::block_set::BlockSet;
-use crate::board::World;
-use crate::predicate::{Predicate, on_falling, on_rising};
+use crate::bit_set::BitSet;
+use crate::board::{World, block_count};
 use crate::scales::Measure;
+use crate::table::Table;
 
 impl World {
-    /// The blocks of which the predicate, if it is one that speaks of three blocks, says that they stand so to the blocks of
-    /// the two numbers.
-    pub(crate) fn related_to_two(&self, predicate: Predicate, m: u32, n: u32) -> BlockSet
-        ensures value { IsSetOf self.now (λ b. says predicate (Some b ∷ block_at self.now m ∷ block_at self.now n ∷ [])) result.bits }
+    /// The blocks that stand between the blocks of the two numbers.
+    pub(crate) fn between(&self, m: u32, n: u32) -> BitSet
+        ensures value { IsSetOf self.now (λ b. says Between (Some b ∷ block_at self.now m ∷ block_at self.now n ∷ [])) result.bits }
     {
-        match (self.block(m), self.block(n)) {
-            (Some(c), Some(d)) => self.related_to_both(predicate, &c, &d),
-            _ => BlockSet::EMPTY,
+        match self.place_of(m) {
+            Some(place) => self.lines(n).between(place),
+            None => BitSet::EMPTY,
         }
     }
 
-    /// The blocks in the second place of what the predicate says, where the blocks of the two numbers stand in the first and
-    /// in the third.
-    pub(crate) fn in_second_place(&self, predicate: Predicate, m: u32, n: u32) -> BlockSet
-        ensures value { IsSetOf self.now (λ c. says predicate (block_at self.now m ∷ Some c ∷ block_at self.now n ∷ [])) result.bits }
+    /// The blocks for which the block of the first number stands between them and that of the second.
+    pub(crate) fn beyond(&self, m: u32, n: u32) -> BitSet
+        ensures value { IsSetOf self.now (λ c. says Between (block_at self.now m ∷ Some c ∷ block_at self.now n ∷ [])) result.bits }
     {
-        match (self.block(m), self.block(n)) {
-            (Some(b), Some(d)) => self.beside_both(predicate, &b, &d),
-            _ => BlockSet::EMPTY,
+        match self.place_of(n) {
+            Some(place) => self.lines(m).around(place),
+            None => BitSet::EMPTY,
         }
     }
 
-    /// The blocks of which the predicate says that they stand so to the two.
-    fn related_to_both(&self, predicate: Predicate, c: &Block, d: &Block) -> BlockSet
-        requires world { IsWorld self.now }
-        requires first { is_on_board c.now ≡ true }
-        requires second { is_on_board d.now ≡ true }
-        ensures value { IsSetOf self.now (λ b. says_of_three predicate b c.now d.now) result.bits }
+    /// The place of the block of the number in the order of the blocks, from 0: none where there is no such block.
+    fn place_of(&self, number: u32) -> Option<u32>
+        ensures some { IfSome result (λ place. (place < length self.now) × (block_at self.now (place + 1) ≡ block_at self.now number)) }
+        ensures none { result ≡ None → block_at self.now number ≡ None }
+        ensures few { length self.now ≤ 64 }
     {
-        match predicate {
-            Predicate::Between => self.between(c, d),
-            _ => BlockSet::EMPTY,
-        }
-    }
-
-    /// The blocks in the second place of what the predicate says of the two.
-    fn beside_both(&self, predicate: Predicate, b: &Block, d: &Block) -> BlockSet
-        requires world { IsWorld self.now }
-        requires first { is_on_board b.now ≡ true }
-        requires second { is_on_board d.now ≡ true }
-        ensures value { IsSetOf self.now (λ c. says_of_three predicate b.now c d.now) result.bits }
-    {
-        match predicate {
-            Predicate::Between => self.behind(b, d),
-            _ => BlockSet::EMPTY,
-        }
-    }
-
-    /// The blocks that stand between the two: none where these aren't in one line.
-    fn between(&self, c: &Block, d: &Block) -> BlockSet
-        requires world { IsWorld self.now }
-        requires first { is_on_board c.now ≡ true }
-        requires second { is_on_board d.now ≡ true }
-        ensures value { IsSetOf self.now (λ b. is_between b c.now d.now) result.bits }
-    {
-        match line_of(c, d) {
-            Some(Line { line, place }) => self
-                .same(line, line.of(c))
-                .intersection(self.inside(place, place.of(c), place.of(d))),
-            None => BlockSet::EMPTY,
-        }
-    }
-
-    /// The blocks for which the first block stands between them and the second: none where these aren't in one line.
-    fn behind(&self, b: &Block, d: &Block) -> BlockSet
-        requires world { IsWorld self.now }
-        requires first { is_on_board b.now ≡ true }
-        requires second { is_on_board d.now ≡ true }
-        ensures value { IsSetOf self.now (λ c. is_between b.now c d.now) result.bits }
-    {
-        match line_of(b, d) {
-            Some(Line { line, place }) => self
-                .same(line, line.of(b))
-                .intersection(self.beyond(place, place.of(b), place.of(d))),
-            None => BlockSet::EMPTY,
-        }
-    }
-
-    /// The blocks that measure something strictly between the numbers.
-    fn inside(&self, place: Measure, one: u16, other: u16) -> BlockSet
-        ensures value { IsSetOf self.now (λ b. is_inside (measure_of place b) one other) result.bits }
-    {
-        if one < other {
-            self.above(place, one)
-                .intersection(self.below(place, usize::from(other)))
-        } else if other < one {
-            self.above(place, other)
-                .intersection(self.below(place, usize::from(one)))
+        let place = number.saturating_sub(1);
+        if place < block_count(self) {
+            Some(place)
         } else {
-            BlockSet::EMPTY
+            None
         }
     }
 
-    /// The blocks for which the first number lies strictly between what they measure and the second.
-    fn beyond(&self, place: Measure, one: u16, other: u16) -> BlockSet
-        ensures value { IsSetOf self.now (λ c. is_inside one (measure_of place c) other) result.bits }
+    /// The lines through the block of the number.
+    fn lines(&self, number: u32) -> Lines
+        ensures value { AreLines self.now number result }
+        ensures low { result.place < 64 }
     {
-        if one < other {
-            self.below(place, usize::from(one))
-        } else if other < one {
-            self.above(place, one)
-        } else {
-            BlockSet::EMPTY
+        match self.blocks().get((number as usize).saturating_sub(1)) {
+            Some(b) => {
+                let row = self.same(Measure::Row, Measure::Row.of(b));
+                let column = self.same(Measure::Column, Measure::Column.of(b));
+                let rising = self.same(Measure::Rising, Measure::Rising.of(b));
+                let falling = self.same(Measure::Falling, Measure::Falling.of(b));
+                Lines {
+                    place: number.saturating_sub(1),
+                    all: row.union(column).union(rising).union(falling),
+                    row,
+                    column,
+                    rising,
+                    falling,
+                }
+            }
+            None => Lines::EMPTY,
         }
     }
 }
 
-/// A line on the board: by what the blocks in it measure the same, and by what their places in it are measured.
+/// The four lines of the board through one block: the place of the block, and the sets of the blocks in all four and in each.
+/// A line has its blocks in the order of their places, since the blocks of a world come in the order of their squares.
 #[derive(Clone, Copy)]
-pub struct Line {
-    line: Measure,
-    place: Measure,
+pub struct Lines {
+    place: u32,
+    all: BitSet,
+    row: BitSet,
+    column: BitSet,
+    rising: BitSet,
+    falling: BitSet,
 }
 
-/// The line in which both stand, if there is one. A block that stands between others stands in their line.
-fn line_of(b: &Block, c: &Block) -> Option<Line>
-    requires first { is_on_board b.now ≡ true }
-    requires second { is_on_board c.now ≡ true }
-    ensures some { IfSome result (λ l. IsLineOf l.line l.place b.now c.now) }
-    ensures none { result ≡ None → StandInNoLine b.now c.now }
-{
-    let (line, place) = if b.row == c.row {
-        (Measure::Row, Measure::Column)
-    } else if b.column == c.column {
-        (Measure::Column, Measure::Row)
-    } else if on_rising(b, c) {
-        (Measure::Rising, Measure::Column)
-    } else if on_falling(b, c) {
-        (Measure::Falling, Measure::Column)
-    } else {
-        return None;
+impl Lines {
+    /// Lines with no blocks in them.
+    const EMPTY: Lines = Lines {
+        place: 0,
+        all: BitSet::EMPTY,
+        row: BitSet::EMPTY,
+        column: BitSet::EMPTY,
+        rising: BitSet::EMPTY,
+        falling: BitSet::EMPTY,
     };
-    Some(Line { line, place })
+
+    /// The blocks in the line that has the other place in it.
+    fn through(self, other: u32) -> BitSet
+        requires within { other < 64 }
+        requires here { has self.all.bits other ≡ true }
+        ensures value { result.bits ≡ line_at self other }
+    {
+        if self.row.has(other) {
+            self.row
+        } else if self.column.has(other) {
+            self.column
+        } else if self.rising.has(other) {
+            self.rising
+        } else {
+            self.falling
+        }
+    }
+
+    /// The blocks that stand between the block at the other place and the one of the lines.
+    fn between(self, other: u32) -> BitSet
+        requires low { self.place < 64 }
+        requires within { other < 64 }
+        ensures value { (w : List Standing) (n : ℕ) → AreLines w n self → other < length w → IsSetOf w (λ b. says Between (Some b ∷ block_at w (other + 1) ∷ block_at w n ∷ [])) result.bits }
+    {
+        if self.all.has(other) {
+            self.through(other)
+                .intersection(BitSet::inside(other, self.place))
+        } else {
+            BitSet::EMPTY
+        }
+    }
+
+    /// The blocks for which the block of the lines stands between them and the one at the other place.
+    fn around(self, other: u32) -> BitSet
+        requires low { self.place < 64 }
+        requires within { other < 64 }
+        ensures value { (w : List Standing) (n : ℕ) → AreLines w n self → other < length w → IsSetOf w (λ b. says Between (block_at w n ∷ Some b ∷ block_at w (other + 1) ∷ [])) result.bits }
+    {
+        if self.all.has(other) {
+            self.through(other)
+                .intersection(BitSet::beyond(self.place, other))
+        } else {
+            BitSet::EMPTY
+        }
+    }
+
+    /// The blocks for which the block at the other place stands between them and the one of the lines.
+    fn behind(self, other: u32) -> BitSet
+        requires low { self.place < 64 }
+        requires within { other < 64 }
+        ensures value { (w : List Standing) (n : ℕ) → AreLines w n self → other < length w → IsSetOf w (λ b. says Between (block_at w (other + 1) ∷ Some b ∷ block_at w n ∷ [])) result.bits }
+    {
+        if self.all.has(other) {
+            self.through(other)
+                .intersection(BitSet::beyond(other, self.place))
+        } else {
+            BitSet::EMPTY
+        }
+    }
+}
+
+/// Writes for each block, from the first row on, the blocks that stand between it and the one of the number.
+pub(crate) fn put_between(sets: &mut Table, first: u32, number: u32, world: &World)
+    requires few { first + length world.now ≤ 512 }
+    ensures value { (m : ℕ) → m < length world.now → IsSetOf world.now (λ b. says Between (Some b ∷ block_at world.now (m + 1) ∷ block_at world.now number ∷ [])) (bits_in sets.new (first + m)) }
+    ensures elsewhere { (r : ℕ) → r < first → bits_in sets.new r ≡ bits_in sets.old r }
+{
+    let lines = world.lines(number);
+    for place in 0..block_count(world) {
+        sets.put(first + place, lines.between(place));
+    }
+}
+
+/// Writes for each block, from the first row on, the blocks for which the one of the number stands between them and it.
+pub(crate) fn put_around(sets: &mut Table, first: u32, number: u32, world: &World)
+    requires few { first + length world.now ≤ 512 }
+    ensures value { (m : ℕ) → m < length world.now → IsSetOf world.now (λ b. says Between (block_at world.now number ∷ Some b ∷ block_at world.now (m + 1) ∷ [])) (bits_in sets.new (first + m)) }
+    ensures elsewhere { (r : ℕ) → r < first → bits_in sets.new r ≡ bits_in sets.old r }
+{
+    let lines = world.lines(number);
+    for place in 0..block_count(world) {
+        sets.put(first + place, lines.around(place));
+    }
+}
+
+/// Writes for each block, from the first row on, the blocks for which it stands between them and the one of the number.
+pub(crate) fn put_behind(sets: &mut Table, first: u32, number: u32, world: &World)
+    requires few { first + length world.now ≤ 512 }
+    ensures value { (m : ℕ) → m < length world.now → IsSetOf world.now (λ b. says Between (block_at world.now (m + 1) ∷ Some b ∷ block_at world.now number ∷ [])) (bits_in sets.new (first + m)) }
+    ensures elsewhere { (r : ℕ) → r < first → bits_in sets.new r ≡ bits_in sets.old r }
+{
+    let lines = world.lines(number);
+    for place in 0..block_count(world) {
+        sets.put(first + place, lines.behind(place));
+    }
 }

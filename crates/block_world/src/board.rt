@@ -5,8 +5,8 @@ ghost use Rattle.block_world.specs.Worlds.{IsWorld};
 ghost use Rattle.block_world.specs.Answers.{is_borne};
 ghost use Rattle.block_world.specs.Scales.{measure_of, AreBelow};
 
+use crate::bit_set::BitSet;
 use crate::block::Block;
-use crate::block_set::BlockSet;
 use crate::scales::{Measure, Scales};
 use std::marker::Model;
 
@@ -76,6 +76,7 @@ impl World {
     pub(crate) fn block(&self, number: u32) -> Option<Block>
         ensures value { result ≡ worlds.block_at self.now number }
         ensures world { IsWorld self.now }
+        ensures few { length self.now ≤ 64 }
         ensures on_board { IfSome result (λ b. geometry.is_on_board b ≡ true) }
     {
         self.blocks
@@ -84,7 +85,7 @@ impl World {
     }
 
     /// For each number the blocks that measure less.
-    pub(crate) fn scale(&self, measure: Measure) -> &[BlockSet]
+    pub(crate) fn scale(&self, measure: Measure) -> &[BitSet]
         ensures value { AreBelow self.now (measure_of measure) 0 result.now }
     {
         self.scales.scale(measure)

@@ -33,45 +33,41 @@ pub(crate) fn referent_of(t: &Term, world: &World, bound: &Bound<'_>) -> Referen
     ensures value { (r c : ℕ) → r < 512 → c < 64 → number_by (length world.now) result r c ≡ number_at (standing bound.now world.now r c) t.now }
 {
     match t {
-        Term::Var(x) => referent_of_variable(x, world, bound, 1, 1),
+        Term::Var(x) => referent_of_variable(x, world, bound),
         Term::Name(n) => Referent::One(number_of_name(n, world, bound)),
     }
 }
 
-/// What the variable stands for, where the rows and the columns of the bound variables are those of a table without their last
-/// digits, and where these are the place values of the last digits left.
-fn referent_of_variable(
-    x: &Ident,
-    world: &World,
-    bound: &Bound<'_>,
-    row: u32,
-    column: u32,
-) -> Referent
-    ensures value { (r c : ℕ) → r < 512 → c < 64 → number_by (length world.now) result r c ≡ number_at (standing bound.now world.now (r / row) (c / column)) (terms.Var x.now) }
+/// What the variable stands for: the quantifiers are passed from the innermost one on, and the place values of the digits grow.
+fn referent_of_variable(x: &Ident, world: &World, bound: &Bound<'_>) -> Referent
+    ensures value { (r c : ℕ) → r < 512 → c < 64 → number_by (length world.now) result r c ≡ number_at (standing bound.now world.now r c) (terms.Var x.now) }
 {
-    match bound {
-        Bound::Given(places) => Referent::One(number_of_place(x, world, places)),
-        Bound::One(y, number, rest) => {
-            if same_ident(y, x) {
-                Referent::One(*number)
-            } else {
-                referent_of_variable(x, world, rest, row, column)
+    let count = block_count(world);
+    let mut row = 1;
+    let mut column = 1;
+    let mut outer = bound;
+    loop {
+        match outer {
+            Bound::Given(places) => return Referent::One(number_of_place(x, world, places)),
+            Bound::One(y, number, rest) => {
+                if same_ident(y, x) {
+                    return Referent::One(*number);
+                }
+                outer = rest;
             }
-        }
-        Bound::ByRow(y, rest) => {
-            if same_ident(y, x) {
-                Referent::ByRow(row)
-            } else {
-                let next = row.saturating_mul(block_count(world));
-                referent_of_variable(x, world, rest, next, column)
+            Bound::ByRow(y, rest) => {
+                if same_ident(y, x) {
+                    return Referent::ByRow(row);
+                }
+                row = row.saturating_mul(count);
+                outer = rest;
             }
-        }
-        Bound::ByColumn(y, rest) => {
-            if same_ident(y, x) {
-                Referent::ByColumn(column)
-            } else {
-                let next = column.saturating_mul(block_count(world));
-                referent_of_variable(x, world, rest, row, next)
+            Bound::ByColumn(y, rest) => {
+                if same_ident(y, x) {
+                    return Referent::ByColumn(column);
+                }
+                column = column.saturating_mul(count);
+                outer = rest;
             }
         }
     }

@@ -1,4 +1,4 @@
-ghost use Rattle.std.specs.Prelude.{◌≡◌, ◌<◌, ◌≤◌, ◌+◌, ◌*◌, ℕ, IfSome};
+ghost use Rattle.std.specs.Prelude.{◌≡◌, ◌<◌, ◌≤◌, ℕ, true, IfSome};
 ghost use Rattle.block_world.specs.Digits.{case_of, digit_of, number_by};
 
 /// What block a term stands for.
@@ -13,6 +13,18 @@ pub enum Referent {
 }
 
 impl Referent {
+    /// Whether both are the same.
+    pub(crate) fn is(self, other: Referent) -> bool
+        ensures same { result ≡ true → self ≡ other }
+    {
+        match (self, other) {
+            (Referent::One(m), Referent::One(n)) => m == n,
+            (Referent::ByRow(m), Referent::ByRow(n)) => m == n,
+            (Referent::ByColumn(m), Referent::ByColumn(n)) => m == n,
+            _ => false,
+        }
+    }
+
     /// What it is in the row, whatever the row was.
     pub(crate) fn at(self, row: u32, count: u32) -> Referent
         requires some { 0 < count }
@@ -21,25 +33,6 @@ impl Referent {
         match self {
             Referent::ByRow(stride) => Referent::One(digit(row, stride, count) + 1),
             Referent::One(_) | Referent::ByColumn(_) => self,
-        }
-    }
-
-    /// What it is in a group of rows, as many as there are blocks, where these are the first rows; none where it goes by another
-    /// digit than the last two.
-    pub(crate) fn in_group(self, group: u32, count: u32) -> Option<Referent>
-        requires within { group < count }
-        ensures value { IfSome result (λ s. (r c : ℕ) → r < count → number_by count s r c ≡ number_by count self (group * count + r) c) }
-    {
-        match self {
-            Referent::One(_) | Referent::ByColumn(_) => Some(self),
-            Referent::ByRow(1) => Some(self),
-            Referent::ByRow(stride) => {
-                if stride == count {
-                    Some(Referent::One(group + 1))
-                } else {
-                    None
-                }
-            }
         }
     }
 

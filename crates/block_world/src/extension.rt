@@ -7,7 +7,7 @@ ghost use Rattle.block_world.specs.Truth.{val};
 ghost use Rattle.block_world.specs.Worlds.{numbers};
 
 use crate::atomic::{Atomic, atomic_of};
-use crate::block_set::BlockSet;
+use crate::bit_set::BitSet;
 use crate::board::{World, block_count};
 use crate::bound::{Bound, referent_of};
 use crate::extent::{COLUMNS, Extent, ROWS};
@@ -37,7 +37,7 @@ pub(crate) fn tabulate(
             let (s, t) = (referent_of(a, world, bound), referent_of(b, world, bound));
             Atomic::Two(Relation::Same, s, t).tabulate(table, world, extent);
         }
-        Sent::Bottom => table.fill(BlockSet::EMPTY, extent.rows),
+        Sent::Bottom => table.fill(BitSet::EMPTY, extent.rows),
         Sent::Not(a) => {
             tabulate(table, a.get(), world, bound, extent);
             table.complement(extent.rows);
@@ -197,11 +197,11 @@ fn tabulate_atom(
     ensures value { AreExtensions extent.columns extent.rows (λ r c. predicates.is_true_of (predicates.predicate_of p.now) (map (stands_for world.now (standing bound.now world.now r c)) terms.now)) table.new }
 {
     let Some(predicate) = predicate_of(p.as_slice()) else {
-        table.fill(BlockSet::EMPTY, extent.rows);
+        table.fill(BitSet::EMPTY, extent.rows);
         return;
     };
     match atomic_of(predicate, terms, world, bound) {
         Some(atomic) => atomic.tabulate(table, world, extent),
-        None => table.fill(BlockSet::EMPTY, extent.rows),
+        None => table.fill(BitSet::EMPTY, extent.rows),
     }
 }

@@ -1,23 +1,24 @@
 ghost use Rattle.std.specs.Prelude.{◌≡◌, ◌<◌, ◌≤◌, length};
-ghost use Rattle.block_world.specs.BlockSets.{IsExtension};
+ghost use Rattle.block_world.specs.BitSets.{IsExtension};
 ghost use Rattle.block_world.specs.Referents.{value_by};
 
 use crate::atomic::Atomic;
-use crate::block_set::BlockSet;
+use crate::bit_set::BitSet;
 use crate::board::{World, block_count};
-use crate::columns::spread;
+use crate::columns::{spread, spread_pairs};
 use crate::digits::Referent::{ByColumn, One};
 use crate::relation::stands_between;
 
 impl Atomic {
     /// The columns of the first row, among the first ones, in which it is true.
-    pub(crate) fn in_columns(self, world: &World, columns: u32) -> BlockSet
+    pub(crate) fn in_columns(self, world: &World, columns: u32) -> BitSet
         requires some { 0 < length world.now }
         requires narrow { columns ≤ 64 }
         ensures value { IsExtension columns (value_by world.now self 0) result.bits }
     {
         let count = block_count(world);
         match self {
+            Atomic::Never => BitSet::EMPTY,
             Atomic::One(predicate, ByColumn(stride)) => {
                 spread(world.having(predicate), stride, count, columns)
             }
@@ -32,20 +33,23 @@ impl Atomic {
                     columns,
                 )
             }
+            Atomic::Two(relation, ByColumn(first), ByColumn(second)) => {
+                spread_pairs(relation, first, second, world, columns)
+            }
             Atomic::One(_, One(_)) | Atomic::Two(_, One(_), One(_)) => {
-                BlockSet::all_or_none(self.holds(0, world))
+                BitSet::all_or_none(self.holds(0, world))
             }
             _ => self.in_each_column(world, columns),
         }
     }
 
     /// The same, asked of one column after the other.
-    fn in_each_column(self, world: &World, columns: u32) -> BlockSet
+    fn in_each_column(self, world: &World, columns: u32) -> BitSet
         requires some { 0 < length world.now }
         requires narrow { columns ≤ 64 }
         ensures value { IsExtension columns (value_by world.now self 0) result.bits }
     {
-        let mut set = BlockSet::EMPTY;
+        let mut set = BitSet::EMPTY;
         for column in 0..columns {
             set = set.with(column, self.holds(column, world));
         }
@@ -59,6 +63,7 @@ impl Atomic {
     {
         let count = block_count(world);
         match self {
+            Atomic::Never => false,
             Atomic::One(predicate, s) => match world.block(s.number(column, count)) {
                 Some(b) => predicate.says_of_one(&b),
                 None => false,

@@ -1,8 +1,8 @@
 ghost use Rattle.std.specs.Prelude.{◌≡◌, ◌<◌, ℕ};
-ghost use Rattle.block_world.specs.BlockSets.{has};
+ghost use Rattle.block_world.specs.BitSets.{has};
 ghost use Rattle.block_world.specs.Tables as tables;
 
-use crate::block_set::BlockSet;
+use crate::bit_set::BitSet;
 
 /// How many values are joined to one.
 #[derive(Clone, Copy)]
@@ -16,12 +16,12 @@ pub enum Junction {
 impl Junction {
     /// What is made of no values, for each block.
     #[tactic(auto, using(crate::proofs::Sets::full_has, crate::proofs::Sets::empty_has))]
-    pub(crate) fn of_none(self) -> BlockSet
+    pub(crate) fn of_none(self) -> BitSet
         ensures value { (k : ℕ) → k < 64 → has result.bits k ≡ tables.of_none self }
     {
         match self {
-            Junction::Every => BlockSet::FULL,
-            Junction::Any => BlockSet::EMPTY,
+            Junction::Every => BitSet::FULL,
+            Junction::Any => BitSet::EMPTY,
         }
     }
 
@@ -67,7 +67,7 @@ pub enum Connective {
 
 impl Connective {
     /// The blocks of which the two values, joined so, are true.
-    pub(crate) fn join(self, left: BlockSet, right: BlockSet) -> BlockSet
+    pub(crate) fn join(self, left: BitSet, right: BitSet) -> BitSet
         ensures value { tables.IsJoin self left.bits right.bits result.bits }
     {
         match self {

@@ -4,8 +4,8 @@
 mod answer;
 mod atomic;
 mod betweenness;
+mod bit_set;
 mod block;
-mod block_set;
 mod board;
 mod bound;
 mod columns;

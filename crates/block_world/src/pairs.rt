@@ -1,5 +1,5 @@
 ghost use Rattle.std.specs.Prelude.{◌≡◌, ◌<◌, ◌≤◌, ◌+◌, ℕ, length};
-ghost use Rattle.block_world.specs.BlockSets.{has};
+ghost use Rattle.block_world.specs.BitSets.{has};
 ghost use Rattle.block_world.specs.Digits.{digit_of};
 ghost use Rattle.block_world.specs.Referents.{value_by, ArePairsInColumns};
 ghost use Rattle.block_world.specs.Tables.{bits_in, AreExtensions};
@@ -7,7 +7,7 @@ ghost use Rattle.block_world.specs.declared.atomic.Atomic.TheVariants.{One, Two}
 ghost use Rattle.block_world.specs.declared.digits.Referent.TheVariants as ref;
 
 use crate::atomic::Atomic;
-use crate::block_set::BlockSet;
+use crate::bit_set::BitSet;
 use crate::board::{World, block_count};
 use crate::columns::spread;
 use crate::digits::{Referent, digit};
@@ -109,7 +109,7 @@ fn deal_by_digit(
 }
 
 /// In each row all columns or none: whether the block of the row's digit is in the set.
-fn deal_members(table: &mut Table, set: BlockSet, stride: u32, world: &World, rows: u32)
+fn deal_members(table: &mut Table, set: BitSet, stride: u32, world: &World, rows: u32)
     requires some { 0 < length world.now }
     requires few { rows ≤ 512 }
     ensures value { (r : ℕ) → r < rows → (k : ℕ) → k < 64 → has (bits_in table.new r) k ≡ has set.bits (digit_of (length world.now) stride r) }
@@ -118,7 +118,7 @@ fn deal_members(table: &mut Table, set: BlockSet, stride: u32, world: &World, ro
     let count = block_count(world);
     for row in 0..rows {
         let is_in = set.has(digit(row, stride, count));
-        table.put(row, BlockSet::all_or_none(is_in));
+        table.put(row, BitSet::all_or_none(is_in));
     }
 }
 
@@ -141,10 +141,7 @@ fn deal_pairs(
     for done in 0..extent.rows {
         let row = extent.rows - 1 - done;
         let set = table.row(digit(row, second, count));
-        table.put(
-            row,
-            BlockSet::all_or_none(set.has(digit(row, first, count))),
-        );
+        table.put(row, BitSet::all_or_none(set.has(digit(row, first, count))));
     }
 }
 
@@ -165,6 +162,9 @@ pub(crate) fn relate_in_columns(
 {
     relate(sets, first, relation, world);
     let count = block_count(world);
+    if stride == 1 && columns <= count {
+        return;
+    }
     for place in 0..count {
         let set = sets.row(first + place);
         sets.put(first + place, spread(set, stride, count, columns));

@@ -212,14 +212,14 @@ fn is_inside(k: u8, m: u8, n: u8) -> bool
 }
 
 /// Whether both stand in one diagonal that rises to the right.
-pub(crate) fn on_rising(b: &Block, c: &Block) -> bool
+fn on_rising(b: &Block, c: &Block) -> bool
     ensures value { result ≡ geometry.on_rising b.now c.now }
 {
     u16::from(b.column) + u16::from(c.row) == u16::from(c.column) + u16::from(b.row)
 }
 
 /// Whether both stand in one diagonal that falls to the right.
-pub(crate) fn on_falling(b: &Block, c: &Block) -> bool
+fn on_falling(b: &Block, c: &Block) -> bool
     ensures value { result ≡ geometry.on_falling b.now c.now }
 {
     u16::from(b.column) + u16::from(b.row) == u16::from(c.column) + u16::from(c.row)

@@ -1,14 +1,15 @@
 ghost use Rattle.std.specs.Prelude.{◌≡◌, ◌<◌, ◌≤◌, ◌+◌, ◌==◌, ℕ, List, length, [], ◌∷◌};
 ghost use Rattle.block_world.specs.declared.block.Block.{Block as Standing};
 ghost use Rattle.block_world.specs.declared.predicate.Predicate.TheVariants.{Between as StandsBetween};
-ghost use Rattle.block_world.specs.BlockSets.{has, IsExtension};
+ghost use Rattle.block_world.specs.BitSets.{has, IsExtension};
 ghost use Rattle.block_world.specs.Predicates.{says};
 ghost use Rattle.block_world.specs.Referents.{ArePairs};
-ghost use Rattle.block_world.specs.Relations.{relates};
+ghost use Rattle.block_world.specs.Relations.{about, relates};
 ghost use Rattle.block_world.specs.Tables.{bits_in};
 ghost use Rattle.block_world.specs.Worlds.{block_at};
 
-use crate::block_set::BlockSet;
+use crate::betweenness::{put_around, put_behind, put_between};
+use crate::bit_set::BitSet;
 use crate::board::{World, block_count};
 use crate::predicate::{Predicate, is_between};
 use crate::table::Table;
@@ -42,6 +43,18 @@ impl Relation {
         }
     }
 
+    /// The same with another third block, if it is about one.
+    pub(crate) fn about(self, number: u32) -> Relation
+        ensures value { result ≡ about self number }
+    {
+        match self {
+            Relation::Same | Relation::Says(_) => self,
+            Relation::Between(_) => Relation::Between(number),
+            Relation::Behind(_) => Relation::Behind(number),
+            Relation::Around(_) => Relation::Around(number),
+        }
+    }
+
     /// Whether it is true of the blocks of the two numbers.
     pub(crate) fn holds(self, m: u32, n: u32, world: &World) -> bool
         ensures value { result ≡ relates world.now self m n }
@@ -59,15 +72,15 @@ impl Relation {
     }
 
     /// The blocks that stand so to the one of the number.
-    pub(crate) fn related(self, n: u32, world: &World) -> BlockSet
+    pub(crate) fn related(self, n: u32, world: &World) -> BitSet
         ensures value { IsExtension (length world.now) (λ k. relates world.now self (k + 1) n) result.bits }
     {
         match self {
-            Relation::Same => only(n),
+            Relation::Same => block_of(n),
             Relation::Says(predicate) => world.related(predicate, n),
-            Relation::Between(number) => world.related_to_two(Predicate::Between, n, number),
-            Relation::Behind(number) => world.in_second_place(Predicate::Between, n, number),
-            Relation::Around(number) => world.in_second_place(Predicate::Between, number, n),
+            Relation::Between(number) => world.between(n, number),
+            Relation::Behind(number) => world.beyond(n, number),
+            Relation::Around(number) => world.beyond(number, n),
         }
     }
 }
@@ -83,18 +96,32 @@ pub(crate) fn stands_between(k: u32, m: u32, n: u32, world: &World) -> bool
 }
 
 /// The block of the number, if there is one.
-fn only(number: u32) -> BlockSet
+fn block_of(number: u32) -> BitSet
     ensures value { (k : ℕ) → k < 64 → has result.bits k ≡ (k + 1 == number) }
 {
     if 0 < number && number <= 64 {
-        BlockSet::EMPTY.with(number - 1, true)
+        BitSet::only(number - 1)
     } else {
-        BlockSet::EMPTY
+        BitSet::EMPTY
     }
 }
 
 /// From the row on, for each block those that stand so to it.
 pub(crate) fn relate(sets: &mut Table, first: u32, relation: Relation, world: &World)
+    requires few { first + length world.now ≤ 512 }
+    ensures value { ArePairs world.now relation first sets.new }
+    ensures before { (r : ℕ) → r < first → bits_in sets.new r ≡ bits_in sets.old r }
+{
+    match relation {
+        Relation::Between(number) => put_between(sets, first, number, world),
+        Relation::Behind(number) => put_behind(sets, first, number, world),
+        Relation::Around(number) => put_around(sets, first, number, world),
+        Relation::Same | Relation::Says(_) => relate_each(sets, first, relation, world),
+    }
+}
+
+/// The same, found for one block after the other.
+fn relate_each(sets: &mut Table, first: u32, relation: Relation, world: &World)
     requires few { first + length world.now ≤ 512 }
     ensures value { ArePairs world.now relation first sets.new }
     ensures before { (r : ℕ) → r < first → bits_in sets.new r ≡ bits_in sets.old r }

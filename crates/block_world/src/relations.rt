@@ -1,18 +1,18 @@
-ghost use Rattle.std.specs.Prelude.{◌≡◌, ◌==◌, nat_lt, [], ◌∷◌, Some};
+ghost use Rattle.std.specs.Prelude.{◌≡◌, ◌==◌, nat_lt, nat_le, [], ◌∷◌, Some};
 ghost use Rattle.block_world.specs.Geometry.{apart, share_side};
 ghost use Rattle.block_world.specs.Predicates as spec;
 ghost use Rattle.block_world.specs.Scales.{measure_of, IsSetOf};
 ghost use Rattle.block_world.specs.Worlds.{block_at};
 
+use crate::bit_set::BitSet;
 use crate::block::Block;
-use crate::block_set::BlockSet;
 use crate::board::World;
 use crate::predicate::Predicate;
 use crate::scales::{Measure, set_at};
 
 impl World {
     /// The blocks of which the predicate holds, if it is one that speaks of one block.
-    pub(crate) fn having(&self, predicate: Predicate) -> BlockSet
+    pub(crate) fn having(&self, predicate: Predicate) -> BitSet
         ensures value { IsSetOf self.now (spec.says_of_one predicate) result.bits }
     {
         match predicate {
@@ -22,22 +22,22 @@ impl World {
             Predicate::Small => self.same(Measure::Rank, 1),
             Predicate::Medium => self.same(Measure::Rank, 2),
             Predicate::Large => self.same(Measure::Rank, 3),
-            _ => BlockSet::EMPTY,
+            _ => BitSet::EMPTY,
         }
     }
 
     /// The blocks that stand to the one of the number as the predicate says, if it is one that speaks of two blocks.
-    pub(crate) fn related(&self, predicate: Predicate, number: u32) -> BlockSet
+    pub(crate) fn related(&self, predicate: Predicate, number: u32) -> BitSet
         ensures value { IsSetOf self.now (λ b. spec.says predicate (Some b ∷ block_at self.now number ∷ [])) result.bits }
     {
         match self.block(number) {
             Some(c) => self.related_to(predicate, &c),
-            None => BlockSet::EMPTY,
+            None => BitSet::EMPTY,
         }
     }
 
     /// The blocks that stand to the given one as the predicate says, if it is one that speaks of two blocks.
-    fn related_to(&self, predicate: Predicate, c: &Block) -> BlockSet
+    fn related_to(&self, predicate: Predicate, c: &Block) -> BitSet
         ensures value { IsSetOf self.now (λ b. spec.says_of_two predicate b c.now) result.bits }
     {
         match predicate {
@@ -52,42 +52,43 @@ impl World {
             Predicate::FrontOf => self.below(Measure::Row, usize::from(Measure::Row.of(c))),
             Predicate::BackOf => self.above(Measure::Row, Measure::Row.of(c)),
             Predicate::Adjoins => self.adjoining(c),
-            _ => BlockSet::EMPTY,
+            _ => BitSet::EMPTY,
         }
     }
 
-    /// The blocks whose square shares a side with that of the given one.
-    fn adjoining(&self, c: &Block) -> BlockSet
+    /// The blocks whose square shares a side with that of the given one: those near it in its row, and those near it in its
+    /// column, but not the block itself, which is in both sets alone.
+    fn adjoining(&self, c: &Block) -> BitSet
         ensures value { IsSetOf self.now (λ b. share_side b c.now) result.bits }
     {
         let in_row = self
             .same(Measure::Row, Measure::Row.of(c))
-            .intersection(self.next_to(Measure::Column, Measure::Column.of(c)));
+            .intersection(self.near(Measure::Column, Measure::Column.of(c)));
         let in_column = self
             .same(Measure::Column, Measure::Column.of(c))
-            .intersection(self.next_to(Measure::Row, Measure::Row.of(c)));
-        in_row.union(in_column)
+            .intersection(self.near(Measure::Row, Measure::Row.of(c)));
+        in_row.symmetric_difference(in_column)
     }
 
     /// The blocks that measure less than the number.
-    pub(crate) fn below(&self, measure: Measure, number: usize) -> BlockSet
+    pub(crate) fn below(&self, measure: Measure, number: usize) -> BitSet
         ensures value { IsSetOf self.now (λ b. nat_lt (measure_of measure b) number) result.bits }
     {
         match set_at(self.scale(measure), number) {
             Some(set) => set,
-            None => BlockSet::FULL,
+            None => BitSet::FULL,
         }
     }
 
     /// The blocks that measure more than the number.
-    pub(crate) fn above(&self, measure: Measure, number: u16) -> BlockSet
+    pub(crate) fn above(&self, measure: Measure, number: u16) -> BitSet
         ensures value { IsSetOf self.now (λ b. nat_lt number (measure_of measure b)) result.bits }
     {
         self.below(measure, usize::from(number) + 1).complement()
     }
 
     /// The blocks that measure just the number.
-    pub(crate) fn same(&self, measure: Measure, number: u16) -> BlockSet
+    pub(crate) fn same(&self, measure: Measure, number: u16) -> BitSet
         ensures value { IsSetOf self.now (λ b. measure_of measure b == number) result.bits }
     {
         let less = self.below(measure, usize::from(number));
@@ -95,13 +96,12 @@ impl World {
             .intersection(less.complement())
     }
 
-    /// The blocks that measure one more or one less than the number.
-    fn next_to(&self, measure: Measure, number: u16) -> BlockSet
-        ensures value { IsSetOf self.now (λ b. apart (measure_of measure b) number == 1) result.bits }
+    /// The blocks that measure the number, or one more or one less.
+    fn near(&self, measure: Measure, number: u16) -> BitSet
+        ensures value { IsSetOf self.now (λ b. nat_le (apart (measure_of measure b) number) 1) result.bits }
     {
         let most = self.below(measure, usize::from(number) + 2);
         let less = self.below(measure, usize::from(number.saturating_sub(1)));
-        let same = self.same(measure, number);
-        most.intersection(less.union(same).complement())
+        most.intersection(less.complement())
     }
 }

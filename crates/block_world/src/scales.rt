@@ -3,8 +3,8 @@ ghost use Rattle.std.specs.List.{list_all, slice_get};
 ghost use Rattle.block_world.specs.Geometry.{is_on_board};
 ghost use Rattle.block_world.specs.Scales.{measure_of, scale_at, AreBelow, AreScales, IsSetOf};
 
+use crate::bit_set::BitSet;
 use crate::block::Block;
-use crate::block_set::BlockSet;
 
 /// What is measured of a block.
 #[derive(Clone, Copy)]
@@ -37,7 +37,7 @@ impl Measure {
 }
 
 /// For each number from 0 to 16 the blocks that measure less; no block measures more than 16.
-type Scale = [BlockSet; 17];
+type Scale = [BitSet; 17];
 
 /// The blocks of a world by what they measure.
 #[derive(Clone, Copy, Debug)]
@@ -67,7 +67,7 @@ impl Scales {
     }
 
     /// For each number the blocks that measure less.
-    pub(crate) fn scale(&self, measure: Measure) -> &[BlockSet]
+    pub(crate) fn scale(&self, measure: Measure) -> &[BitSet]
         ensures value { result.now ≡ scale_at self.now measure }
     {
         match measure {
@@ -82,7 +82,7 @@ impl Scales {
 }
 
 /// The set at the number, where the scale goes so far.
-pub(crate) fn set_at(scale: &[BlockSet], number: usize) -> Option<BlockSet>
+pub(crate) fn set_at(scale: &[BitSet], number: usize) -> Option<BitSet>
     ensures value { result ≡ slice_get scale.now number }
 {
     scale.get(number).copied()
@@ -115,11 +115,11 @@ fn scale_of(blocks: &[Block], measure: Measure) -> Scale
 }
 
 /// The blocks that measure less than the number.
-fn below(blocks: &[Block], measure: Measure, number: u16) -> BlockSet
+fn below(blocks: &[Block], measure: Measure, number: u16) -> BitSet
     requires few { length blocks.now ≤ 64 }
     ensures value { IsSetOf blocks.now (λ b. nat_lt (measure_of measure b) number) result.bits }
 {
-    let mut set = BlockSet::EMPTY;
+    let mut set = BitSet::EMPTY;
     for place in 0..blocks.len() {
         set = set.with(place as u32, measure.of(&blocks[place]) < number);
     }

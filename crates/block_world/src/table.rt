@@ -1,7 +1,7 @@
 ghost use Rattle.std.specs.Prelude.{◌≡◌, ◌<◌, ◌≤◌, ◌≢◌, ◌*◌, ◌+◌, ℕ};
 ghost use Rattle.block_world.specs.Tables.{bits_in, IsComplement, IsGroup, IsJoin, AreGathered};
 
-use crate::block_set::BlockSet;
+use crate::bit_set::BitSet;
 use crate::columns::gathered;
 use crate::junction::{Connective, Junction};
 
@@ -9,22 +9,22 @@ use crate::junction::{Connective, Junction};
 /// of the columns in which the value is true.
 #[derive(Clone, Copy)]
 pub struct Table {
-    rows: [BlockSet; 512],
+    rows: [BitSet; 512],
 }
 
 impl Table {
     pub(crate) const EMPTY: Table = Table {
-        rows: [BlockSet::EMPTY; 512],
+        rows: [BitSet::EMPTY; 512],
     };
 
-    pub(crate) fn row(&self, row: u32) -> BlockSet
+    pub(crate) fn row(&self, row: u32) -> BitSet
         requires { row < 512 }
         ensures value { result.bits ≡ bits_in self.now row }
     {
         self.rows[row as usize]
     }
 
-    pub(crate) fn put(&mut self, row: u32, set: BlockSet)
+    pub(crate) fn put(&mut self, row: u32, set: BitSet)
         requires { row < 512 }
         ensures here { bits_in self.new row ≡ set.bits }
         ensures elsewhere { (r : ℕ) → r ≢ row → bits_in self.new r ≡ bits_in self.old r }
@@ -33,7 +33,7 @@ impl Table {
     }
 
     /// The same set in each of the first rows.
-    pub(crate) fn fill(&mut self, set: BlockSet, rows: u32)
+    pub(crate) fn fill(&mut self, set: BitSet, rows: u32)
         requires { rows ≤ 512 }
         ensures value { (r : ℕ) → r < rows → bits_in self.new r ≡ set.bits }
     {
@@ -87,7 +87,7 @@ impl Table {
     }
 
     /// What the junction makes of so many rows from the one of the number.
-    fn joined(&self, junction: Junction, first: u32, count: u32) -> BlockSet
+    fn joined(&self, junction: Junction, first: u32, count: u32) -> BitSet
         requires { first + count ≤ 512 }
         ensures value { IsGroup junction self.now first count result.bits }
     {

@@ -1,12 +1,12 @@
-ghost use Rattle.std.specs.Prelude.{◌≡◌, ◌<◌, ◌≤◌, ◌+◌, ◌*◌, ℕ, true, length};
-ghost use Rattle.block_world.specs.BlockSets.{IsExtension};
+ghost use Rattle.std.specs.Prelude.{◌≡◌, ◌<◌, ◌≤◌, ℕ, true, length};
 ghost use Rattle.block_world.specs.Digits.{case_of};
 ghost use Rattle.block_world.specs.Referents.{value_by};
 ghost use Rattle.block_world.specs.Tables.{bits_in, AreExtensions};
 
 use crate::atomic::Atomic;
+use crate::bit_set::BitSet;
 use crate::board::{World, block_count};
-use crate::digits::{Digits, Referent};
+use crate::digits::Digits;
 use crate::extent::Extent;
 use crate::pairs::{relate_in_columns, tabulate_one, tabulate_two};
 use crate::table::Table;
@@ -20,6 +20,7 @@ impl Atomic {
         ensures value { AreExtensions extent.columns extent.rows (value_by world.now self) table.new }
     {
         match self.reduced() {
+            Atomic::Never => table.fill(BitSet::EMPTY, extent.rows),
             Atomic::One(predicate, s) => tabulate_one(table, predicate, s, world, extent),
             Atomic::Two(relation, s, t) => tabulate_two(table, relation, s, t, world, extent),
             Atomic::Three(_, _, _) => {
@@ -30,7 +31,7 @@ impl Atomic {
         }
     }
 
-    /// The same, where it can be done for groups of rows in which one of its terms is always the same; whether it can.
+    /// The same, where it can be done for groups of rows; whether it can.
     fn tabulate_groups(self, table: &mut Table, world: &World, extent: Extent) -> bool
         requires few { extent.rows ≤ 512 }
         requires narrow { extent.columns ≤ 64 }
@@ -40,38 +41,14 @@ impl Atomic {
         if extent.rows != count * count {
             return false;
         }
-        for group in 0..count {
-            if !self.tabulate_group(group, table, world, extent.columns) {
-                return false;
-            }
-        }
-        true
-    }
-
-    /// Writes the group of rows; whether that can be done.
-    fn tabulate_group(self, group: u32, table: &mut Table, world: &World, columns: u32) -> bool
-        requires within { group < length world.now }
-        requires few { length world.now * length world.now ≤ 512 }
-        requires narrow { columns ≤ 64 }
-        ensures value { result ≡ true → (r : ℕ) → r < length world.now → IsExtension columns (value_by world.now self (group * length world.now + r)) (bits_in table.new (group * length world.now + r)) }
-        ensures before { (r : ℕ) → r < group * length world.now → bits_in table.new r ≡ bits_in table.old r }
-    {
-        let count = block_count(world);
-        let Some(atomic) = self.in_group(group, count) else {
+        let Some((relation, column)) = self.in_groups(count) else {
             return false;
         };
-        match atomic.reduced() {
-            Atomic::Two(relation, Referent::ByColumn(column), Referent::ByRow(1)) => {
-                relate_in_columns(table, group * count, relation, column, world, columns);
-                true
-            }
-            Atomic::Two(relation, Referent::ByRow(1), Referent::ByColumn(column)) => {
-                let converse = relation.converse();
-                relate_in_columns(table, group * count, converse, column, world, columns);
-                true
-            }
-            _ => false,
+        for group in 0..count {
+            let about = relation.about(group + 1);
+            relate_in_columns(table, group * count, about, column, world, extent.columns);
         }
+        true
     }
 
     /// The same, found once for each case of the digits by which its terms go.

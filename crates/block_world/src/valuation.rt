@@ -2,14 +2,14 @@ ghost use Rattle.std.specs.Prelude.{◌≡◌, ◌+◌, length, map};
 ghost use Rattle.std.specs.List.{list_all, list_any};
 ghost use Rattle.block_world.specs.Predicates as predicates;
 ghost use Rattle.block_world.specs.Assignments.{own_names, put, block_of as stands_for};
-ghost use Rattle.block_world.specs.BlockSets.{IsExtension};
+ghost use Rattle.block_world.specs.BitSets.{IsExtension};
 ghost use Rattle.block_world.specs.Worlds.{numbers};
 ghost use Rattle.block_world.specs.Places.{given};
 ghost use Rattle.block_world.specs.Truth as truth;
 
 use crate::answer::Place;
+use crate::bit_set::BitSet;
 use crate::block::Block;
-use crate::block_set::BlockSet;
 use crate::board::{World, block_count};
 use crate::bound::{Bound, number};
 use crate::extension::tabulate;
@@ -78,12 +78,12 @@ fn is_true_of_some(x: &Ident, s: &Sent, world: &World, places: &[Place]) -> bool
 }
 
 /// The blocks for which the sentence is true where the variable stands for them.
-fn blocks_for(x: &Ident, s: &Sent, world: &World, places: &[Place]) -> BlockSet
+fn blocks_for(x: &Ident, s: &Sent, world: &World, places: &[Place]) -> BitSet
     ensures value { IsExtension (length world.now) (λ c. truth.val world.now (put x.now (c + 1) (given places.now (own_names world.now))) s.now) result.bits }
 {
     let count = block_count(world);
     if count == 0 {
-        return BlockSet::EMPTY;
+        return BitSet::EMPTY;
     }
     let mut table = Table::EMPTY;
     let given = Bound::Given(&*places);

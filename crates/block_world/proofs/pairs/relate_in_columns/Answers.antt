@@ -1,7 +1,9 @@
-use Rattle.std.proofs.Common.{ℕ, ◌+◌, length, arith, subst, sym}
-use Rattle.block_world.specs.BlockSets.{IsExtension}
+use Rattle.std.proofs.Common.{◌≡◌, ◌<◌, ℕ, ap, ◌∙◌, ◌+◌, length, arith, subst, sym}
+use Rattle.block_world.specs.BitSets.{IsExtension}
+use Rattle.block_world.specs.Digits.{digit_of}
 use Rattle.block_world.specs.Relations.{relates}
 use Rattle.block_world.proofs.Grouping.{none_grouped, more_grouped}
+use Rattle.block_world.proofs.Numerals.{last_of_few}
 use Rattle.block_world.proofs.Pairing.{spread_extends}
 use Rattle.block_world.proofs.pairs.relate_in_columns.Goals as goal
 
@@ -16,3 +18,15 @@ loop-place-preserved c =
     more_grouped _ _ c.args.first c.args.sets.now c.loop-place.sets c.put.new.self place _ c.loop-place.invariant c.put.ensures.here c.put.ensures.elsewhere
     (spread_extends w f c.row-set.result.bits c.spread.result.bits c.args.stride c.args.columns c.block_count-count.result c.requires.some c.block_count-count.ensures.few c.block_count-count.ensures.value
     (subst (λ (bits : ℕ). IsExtension (length w) f bits) (sym c.row-set.ensures.value) (c.loop-place.invariant.rest place (omega arith) (omega (arith, c.loop-place-test.true, c.block_count-count.ensures.value)))) c.spread.ensures.value)
+
+pub returns-then-columns-count : goal.returns-then-columns-count
+returns-then-columns-count c =
+    let w = c.args.world.now in
+    let n = length w in
+    let count = c.block_count-count.ensures.value in
+    record {
+      value = λ m l k within low. let few : k < n = omega (arith, within, c.if-columns-count.true, count) in
+          let own : digit_of n c.args.stride k ≡ k = ap (λ (s : ℕ). digit_of n s k) c.if-stride-eq1.true ∙ last_of_few n k few in
+          c.relate.ensures.value m l k few low ∙ ap (λ (d : ℕ). relates w c.args.relation (d + 1) (m + 1)) (sym own);
+      before = c.relate.ensures.before;
+    }

@@ -1,10 +1,40 @@
-use Rattle.std.proofs.Common.{refl}
-use Rattle.block_world.proofs.Grouping.{none_grouped, more_grouped}
+use Rattle.std.proofs.Common.{ℕ, ◌+◌, [], ◌∷◌, length, refl, sym, subst}
+use Rattle.std.specs.Prelude.{Some}
+use Rattle.block_world.specs.declared.predicate.Predicate.TheVariants.{Between}
+use Rattle.block_world.specs.BitSets.{IsExtension}
+use Rattle.block_world.specs.Predicates.{says}
+use Rattle.block_world.specs.Relations.{relates}
+use Rattle.block_world.specs.Tables.{bits_in}
+use Rattle.block_world.specs.Worlds.{block_at}
+use Rattle.block_world.proofs.Scaling.{set_extends}
 use Rattle.block_world.proofs.relation.relate.Goals as goal
 
-pub loop-place-init : goal.loop-place-init
-loop-place-init c = none_grouped _ _ c.args.first c.args.sets.now c.args.sets.now (λ m. refl) (λ r _. refl)
+pub returns-in-Between : goal.returns-in-Between
+returns-in-Between c =
+    let w = c.args.world.now in
+    let third = block_at w c.in-Between.number in
+    record {
+      value = λ m l. subst (λ relation. IsExtension (length w) (λ (k : ℕ). relates w relation (k + 1) (m + 1)) (bits_in c.put_between.new.sets (c.args.first + m))) (sym c.in-Between.is)
+          (set_extends w (λ b. says Between (Some b ∷ block_at w (m + 1) ∷ third ∷ [])) (λ o. says Between (o ∷ block_at w (m + 1) ∷ third ∷ [])) (bits_in c.put_between.new.sets (c.args.first + m)) (c.put_between.ensures.value m l) (λ b. refl));
+      before = c.put_between.ensures.elsewhere;
+    }
 
-pub loop-place-preserved : goal.loop-place-preserved
-loop-place-preserved c =
-    more_grouped _ _ c.args.first c.args.sets.now c.loop-place.sets c.put.new.self c.loop-place.place _ c.loop-place.invariant c.put.ensures.here c.put.ensures.elsewhere c.related.ensures.value
+pub returns-in-Behind : goal.returns-in-Behind
+returns-in-Behind c =
+    let w = c.args.world.now in
+    let third = block_at w c.in-Behind.number in
+    record {
+      value = λ m l. subst (λ relation. IsExtension (length w) (λ (k : ℕ). relates w relation (k + 1) (m + 1)) (bits_in c.put_behind.new.sets (c.args.first + m))) (sym c.in-Behind.is)
+          (set_extends w (λ b. says Between (block_at w (m + 1) ∷ Some b ∷ third ∷ [])) (λ o. says Between (block_at w (m + 1) ∷ o ∷ third ∷ [])) (bits_in c.put_behind.new.sets (c.args.first + m)) (c.put_behind.ensures.value m l) (λ b. refl));
+      before = c.put_behind.ensures.elsewhere;
+    }
+
+pub returns-in-Around : goal.returns-in-Around
+returns-in-Around c =
+    let w = c.args.world.now in
+    let third = block_at w c.in-Around.number in
+    record {
+      value = λ m l. subst (λ relation. IsExtension (length w) (λ (k : ℕ). relates w relation (k + 1) (m + 1)) (bits_in c.put_around.new.sets (c.args.first + m))) (sym c.in-Around.is)
+          (set_extends w (λ b. says Between (third ∷ Some b ∷ block_at w (m + 1) ∷ [])) (λ o. says Between (third ∷ o ∷ block_at w (m + 1) ∷ [])) (bits_in c.put_around.new.sets (c.args.first + m)) (c.put_around.ensures.value m l) (λ b. refl));
+      before = c.put_around.ensures.elsewhere;
+    }

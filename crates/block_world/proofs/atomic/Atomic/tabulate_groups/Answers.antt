@@ -1,6 +1,9 @@
-use Rattle.std.proofs.Common.{◌≡◌, ℕ, ◌*◌, ◌<◌, length, sym, subst, arith}
-use Rattle.block_world.specs.BlockSets.{IsExtension}
-use Rattle.block_world.specs.Referents.{value_by}
+use Rattle.std.proofs.Common.{◌≡◌, ℕ, ◌+◌, ◌*◌, ◌<◌, length, ap, sym, ◌∙◌, subst, arith}
+use Rattle.block_world.specs.BitSets.{IsExtension}
+use Rattle.block_world.specs.Digits.{digit_of}
+use Rattle.block_world.specs.Referents.{value_by, ArePairsInColumns}
+use Rattle.block_world.specs.Relations.{about, relates}
+use Rattle.block_world.specs.Tables.{bits_in}
 use Rattle.block_world.proofs.Grouping.{one_group_more}
 use Rattle.block_world.proofs.atomic.Atomic.tabulate_groups.Goals as goal
 
@@ -10,7 +13,17 @@ loop-group-init c = λ r l. absurd (omega (arith, l))
 pub loop-group-preserved : goal.loop-group-preserved
 loop-group-preserved c =
     let w = c.args.world.now in
-    one_group_more (λ r. IsExtension c.args.extent.columns (value_by w c.args.self r)) c.loop-group.group (length w) c.loop-group.table c.tabulate_group.new.table c.loop-group.invariant (c.tabulate_group.ensures.value c.if-not-tabulate_group.false) c.tabulate_group.ensures.before
+    let columns = c.args.extent.columns in
+    let group = c.loop-group.group in
+    let count = c.block_count-count.ensures.value in
+    let table = c.relate_in_columns.new.sets in
+    let pairs = subst (λ (n : ℕ). ArePairsInColumns w c.about-about.result c.in-Some.column columns (group * n) table) count c.relate_in_columns.ensures.value in
+    one_group_more (λ r. IsExtension columns (value_by w c.args.self r)) group (length w) c.loop-group.table table c.loop-group.invariant
+    (λ m l k within low. pairs m l k within low
+    ∙ ap (λ relation. relates w relation (digit_of (length w) c.in-Some.column k + 1) (m + 1)) c.about-about.ensures.value
+    ∙ ap (λ (n : ℕ). relates w (about c.in-Some.relation (group + 1)) (digit_of n c.in-Some.column k + 1) (m + 1)) (sym count)
+    ∙ c.in-Some.ensures.value w group m k count c.loop-group-test.true (omega (arith, l, count)) ∙ ap (λ (n : ℕ). value_by w c.args.self (group * n + m) k) count)
+    (subst (λ (n : ℕ). (r : ℕ) → r < group * n → bits_in table r ≡ bits_in c.loop-group.table r) count c.relate_in_columns.ensures.before)
 
 pub returns : goal.returns
 returns c =
