@@ -1,5 +1,5 @@
 #!/bin/sh
-# Times `./tutor world` on sentences whose work is close to the limit of 20,000,000 units, in worlds of 64, 17, 8 and 2 blocks,
+# Times `./tutor world` on sentences whose work is close to the limit of 20,000,000 units, in worlds of 64 to 2 blocks,
 # beside a loop that counts the same units one by one (a C program; `cc` is needed). Prints a row for each sentence:
 # its units of work, the milliseconds of the count and of `world`, the answer, and the sentence. truth.sh RUNS takes the mean
 # of that many runs, 5 where none is given.
@@ -64,7 +64,7 @@ END
 cc -O2 -o "$folder/count" "$folder/count.c"
 "$tutor" > /dev/null || true # builds the program where it isn't there
 tutor=$(cd "$(dirname "$tutor")" && pwd)/tutor
-for count in 64 17 8 2; do
+for count in 64 23 17 9 8 5 2; do
     blocks "$count" > "$folder/board$count"
 done
 cd "$folder"
@@ -74,10 +74,15 @@ row 64 4 1 '@x @y @z /u Adjoins(z,u)'
 row 64 3 73 "@x @y @z $(repeated 18 '(Cube(z) | ~Cube(z))')"
 row 64 3 76 "@x @y @z $(repeated 25 '(LeftOf(x,z) $ RightOf(z,x))')"
 row 64 3 76 "@x @y @z $(repeated 25 '(Between(z,x,y) $ Between(z,y,x))')"
+row 23 4 13 "$(each 4 "$(repeated 12 'SameCol(x1,x2)')")"
+row 23 4 13 "$(each 4 "$(repeated 12 'Adjoins(x1,x2)')")"
 row 17 5 13 "$(each 5 "$(repeated 12 'SameCol(x1,x2)')")"
 row 17 5 13 "$(each 5 "$(repeated 12 'Between(x1,x2,x3)')")"
+row 9 6 13 "$(each 6 "$(repeated 12 'SameCol(x2,x3)')")"
+row 9 6 13 "$(each 6 "$(repeated 12 'Between(x1,x2,x3)')")"
 row 8 8 1 "$(each 8 'SameCol(x2,x3)')"
 row 8 8 1 "$(each 8 'Between(x1,x2,x3)')"
+row 5 8 13 "$(each 8 "$(repeated 12 'Between(x2,x3,x4)')")"
 row 2 23 1 "$(each 22 '/x23 SameRow(x22,x23)')"
 row 2 23 1 "$(each 23 'SameCol(x1,x2)')"
 row 2 23 1 "$(each 23 'SameCol(x2,x3)')"

@@ -1,4 +1,4 @@
--- The blocks for which a sentence is true, from those for which its parts are: the tables of a sentence's forms.
+-- Where in a table a sentence is true, from where its parts are: the tables of a sentence's forms.
 use Rattle.std.proofs.Common.{◌≡◌, ℕ, ◌+◌, ◌*◌, ◌<◌, ◌≤◌, Bool, true, false, List, [], length, take, get_or, ap, ap₂, sym, ◌∙◌, subst, arith, mul_comm, Bor}
 use Rattle.std.specs.Prelude.{◌/◌, ◌%◌}
 use Rattle.std.specs.List.{list_all, list_any, range_with_len}

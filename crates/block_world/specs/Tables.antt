@@ -1,4 +1,4 @@
--- Tables of sets of blocks, and the ways to join values to one.
+-- Tables of truth values, with a set of columns in each row, and the ways to join values to one.
 use Rattle.std.specs.Prelude.{◌≡◌, ℕ, ◌+◌, ◌*◌, ◌<◌, Bool, true, false, not, ◌&&◌, ◌||◌, List, get_or}
 use Rattle.std.specs.List.{list_all, list_any, range_with_len}
 use Rattle.block_world.specs.declared.junction.Connective.{Connective}

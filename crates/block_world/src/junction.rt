@@ -14,7 +14,7 @@ pub enum Junction {
 }
 
 impl Junction {
-    /// What is made of no values, for each block.
+    /// What is made of no values, at each place.
     #[tactic(auto, using(crate::proofs::Sets::full_has, crate::proofs::Sets::empty_has))]
     pub(crate) fn of_none(self) -> BitSet
         ensures value { (k : ℕ) → k < 64 → has result.bits k ≡ tables.of_none self }
@@ -66,7 +66,7 @@ pub enum Connective {
 }
 
 impl Connective {
-    /// The blocks of which the two values, joined so, are true.
+    /// The places at which the two values, joined so, are true.
     pub(crate) fn join(self, left: BitSet, right: BitSet) -> BitSet
         ensures value { tables.IsJoin self left.bits right.bits result.bits }
     {

@@ -102,6 +102,10 @@ fn deal_by_digit(
 {
     let count = block_count(world);
     relate_in_columns(table, 0, relation, column, world, extent.columns);
+    // Each row is its own digit.
+    if stride == 1 && extent.rows <= count {
+        return;
+    }
     for done in 0..extent.rows {
         let row = extent.rows - 1 - done;
         table.put(row, table.row(digit(row, stride, count)));
@@ -162,6 +166,7 @@ pub(crate) fn relate_in_columns(
 {
     relate(sets, first, relation, world);
     let count = block_count(world);
+    // Each column is its own digit.
     if stride == 1 && columns <= count {
         return;
     }

@@ -6,6 +6,7 @@ use Rattle.block_world.specs.Digits.{digit_of}
 use Rattle.block_world.specs.Relations.{relates}
 use Rattle.block_world.specs.Tables.{bits_in}
 use Rattle.block_world.proofs.Dealing.{none_dealt, more_dealt, digit_before}
+use Rattle.block_world.proofs.Numerals.{last_of_few}
 use Rattle.block_world.proofs.pairs.deal_by_digit.Goals as goal
 
 pub loop-done-init : goal.loop-done-init
@@ -26,3 +27,15 @@ loop-done-preserved c =
 
 pub returns : goal.returns
 returns c = record { value = λ r l. c.loop-done.invariant.done r (omega (arith, c.loop-done-test.false)) l }
+
+pub returns-then-extent-count : goal.returns-then-extent-count
+returns-then-extent-count c =
+    let w = c.args.world.now in
+    let n = length w in
+    let columns = c.args.extent.columns in
+    record {
+      value = λ r l. let few : r < n = omega (arith, l, c.if-extent-count.true, c.block_count-count.ensures.value) in
+          let own : digit_of n c.args.stride r ≡ r = ap (λ (s : ℕ). digit_of n s r) c.if-stride-eq1.true ∙ last_of_few n r few in
+          let pairs = λ (d j : ℕ). IsExtension columns (λ k. relates w c.args.relation (digit_of n c.args.column k + 1) (d + 1)) (bits_in c.relate_in_columns.new.sets j) in
+          subst (λ (d : ℕ). pairs d r) (sym own) (subst (λ (j : ℕ). pairs r j) (omega arith) (c.relate_in_columns.ensures.value r few));
+    }
