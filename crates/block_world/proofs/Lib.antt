@@ -26,6 +26,5 @@ pub mod Sets
 pub mod Spreading
 pub mod Squaring
 pub mod Standings
-pub mod Strictness
 pub mod Swapping
 pub mod Wording

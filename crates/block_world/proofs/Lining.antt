@@ -139,14 +139,14 @@ between_by_places w h k i j x b c e f g =
 
 -- Where a place lies between two others, these are apart, and it is none of them.
 
-pub inside_none : (k m n : ℕ) → m ≡ n → is_inside k m n ≡ false
+inside_none : (k m n : ℕ) → m ≡ n → is_inside k m n ≡ false
 inside_none k m n e = ap (λ j. (nat_lt m k && nat_lt k j) || (nat_lt j k && nat_lt k m)) (sym e) ∙ by_order (cases_lt m k)
   where
     by_order : (m < k) ⊎ (k ≤ m) → ((nat_lt m k && nat_lt k m) || (nat_lt m k && nat_lt k m)) ≡ false
     by_order (inl h) = rw (lt-ltb m k h) (rw (le-ltb k m (omega (arith, h))) refl)
     by_order (inr h) = rw (le-ltb m k h) refl
 
-pub inside_itself : (k m n : ℕ) → k ≡ n → is_inside k m n ≡ false
+inside_itself : (k m n : ℕ) → k ≡ n → is_inside k m n ≡ false
 inside_itself k m n e = ap (λ j. (nat_lt m k && nat_lt k j) || (nat_lt j k && nat_lt k m)) (sym e) ∙ rw (le-ltb k k (omega arith)) (by_test (nat_lt m k))
   where
     by_test : (t : Bool) → ((t && false) || (false && (nat_lt k m))) ≡ false
