@@ -1,3 +1,4 @@
+pub mod Assigning
 pub mod Bearing
 pub mod Dealing
 pub mod Ending
@@ -11,6 +12,7 @@ pub mod LinesRead
 pub mod Lining
 pub mod Marking
 pub mod Naming
+pub mod NoFunctions
 pub mod Numbers
 pub mod Numerals
 pub mod Pairing
@@ -27,4 +29,5 @@ pub mod Spreading
 pub mod Squaring
 pub mod Standings
 pub mod Swapping
+pub mod Terms
 pub mod Wording

@@ -7,6 +7,7 @@ pub mod Scales
 pub mod BoardLines
 pub mod Invariants
 pub mod Assignments
+pub mod AssignmentLaws
 pub mod Places
 pub mod Bound
 pub mod Truth

@@ -19,8 +19,8 @@ const MOST_WORK: u64 = 20_000_000;
 /// Why a sentence has no answer in a world, in the order in which this is tested.
 #[derive(Clone, Copy, Debug, PartialEq, Eq, Error)]
 pub enum TruthFault {
-    /// A predicate in it is none of the blocks language.
-    #[error("a predicate is outside the blocks language")]
+    /// A predicate in it is none of the blocks language, or a function stands in it.
+    #[error("a predicate or a function is outside the blocks language")]
     NotBlocks,
     /// A name in it is one that no block has.
     #[error("no block has such a name")]
@@ -60,14 +60,15 @@ pub fn truth(w: &World, s: &Sent) -> Result<bool, TruthFault>
 }
 
 /// The value of the sentence, where the places say what its free variables stand for, and each name stands for the block
-/// that has it. A predicate outside the blocks language is false of anything. It takes no memory.
+/// that has it. A predicate outside the blocks language is false of anything, and a function gives block 1 for anything. It
+/// takes no memory.
 pub fn truth_at(w: &World, s: &Sent, places: &Places) -> bool
     ensures value { result ≡ val w.now (given places.now (own_names w.now)) s.now }
 {
     value(s, w, places.as_slice())
 }
 
-/// Whether each predicate in the sentence is one of the blocks language.
+/// Whether each predicate in the sentence is one of the blocks language, and no function stands in it.
 #[cycle(blocks)]
 #[tactic(auto, using(crate::proofs::Forms::blocks_and, crate::proofs::Forms::blocks_or))]
 fn is_of_blocks(s: &Sent) -> bool
@@ -75,10 +76,11 @@ fn is_of_blocks(s: &Sent) -> bool
 {
     match s {
         Sent::Atom(p, terms) => match predicate_of(p.as_slice()) {
-            Some(predicate) => predicate.places() == terms.len(),
+            Some(predicate) => predicate.places() == terms.len() && are_simple(terms.as_slice()),
             None => false,
         },
-        Sent::Eq(_, _) | Sent::Bottom => true,
+        Sent::Eq(a, b) => is_simple(a) && is_simple(b),
+        Sent::Bottom => true,
         Sent::Not(a) | Sent::All(_, a) | Sent::Ex(_, a) => is_of_blocks(a.get()),
         Sent::And(parts) | Sent::Or(parts) => are_of_blocks(parts.as_slice()),
         Sent::If(a, b) | Sent::Iff(a, b) => is_of_blocks(a.get()) && is_of_blocks(b.get()),
@@ -95,6 +97,22 @@ fn are_of_blocks(parts: &[Sent]) -> bool
         }
     }
     true
+}
+
+fn are_simple(terms: &[Term]) -> bool
+    ensures value { result ≡ list_all answers.is_simple terms.now }
+{
+    terms.iter().all(|term| is_simple(term))
+}
+
+/// Whether the term is a variable or a name.
+fn is_simple(term: &Term) -> bool
+    ensures value { result ≡ answers.is_simple term.now }
+{
+    match term {
+        Term::Var(_) | Term::Name(_) => true,
+        Term::App(_, _) => false,
+    }
 }
 
 /// Whether each name in the sentence is one that a block has.
@@ -125,17 +143,26 @@ fn are_borne_in_all(parts: &[Sent], w: &World) -> bool
     true
 }
 
+#[cycle(borne_terms)]
 fn have_blocks(terms: &[Term], w: &World) -> bool
     ensures value { result ≡ list_all (answers.has_block w.now) terms.now }
 {
-    terms.iter().all(|term| has_block(term, w))
+    for term in terms {
+        if !has_block(term, w) {
+            return false;
+        }
+    }
+    true
 }
 
+/// Whether each name in the term is one that a block has.
+#[cycle(borne_terms)]
 fn has_block(term: &Term, w: &World) -> bool
     ensures value { result ≡ answers.has_block w.now term.now }
 {
     match term {
         Term::Var(_) => true,
         Term::Name(n) => w.has(n.as_slice()),
+        Term::App(_, args) => have_blocks(args.as_slice(), w),
     }
 }

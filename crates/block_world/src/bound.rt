@@ -1,7 +1,6 @@
 ghost use Rattle.std.specs.Prelude.{◌≡◌, ◌<◌, ◌/◌, ℕ, length, if◌then◌else◌};
 ghost use Rattle.std.specs.Str.{bytes_eq};
-ghost use Rattle.fol_core.specs.declared.sent.Term.TheVariants as terms;
-ghost use Rattle.block_world.specs.Assignments.{number_at, own_names};
+ghost use Rattle.block_world.specs.Assignments.{name_at, number_at, own_names, variable_at};
 ghost use Rattle.block_world.specs.Bound.{standing};
 ghost use Rattle.block_world.specs.Places.{given};
 ghost use Rattle.block_world.specs.Digits.{number_by};
@@ -28,19 +27,20 @@ pub enum Bound<'a> {
     ByColumn(&'a Ident, &'a Bound<'a>),
 }
 
-/// What the term stands for.
+/// What the term stands for. No block is given for a function, so it stands for block 1.
 pub(crate) fn referent_of(t: &Term, world: &World, bound: &Bound<'_>) -> Referent
     ensures value { (r c : ℕ) → r < 512 → c < 64 → number_by (length world.now) result r c ≡ number_at (standing bound.now world.now r c) t.now }
 {
     match t {
         Term::Var(x) => referent_of_variable(x, world, bound),
         Term::Name(n) => Referent::One(number_of_name(n, world, bound)),
+        Term::App(_, _) => Referent::One(1),
     }
 }
 
 /// What the variable stands for: the quantifiers are passed from the innermost one on, and the place values of the digits grow.
 fn referent_of_variable(x: &Ident, world: &World, bound: &Bound<'_>) -> Referent
-    ensures value { (r c : ℕ) → r < 512 → c < 64 → number_by (length world.now) result r c ≡ number_at (standing bound.now world.now r c) (terms.Var x.now) }
+    ensures value { (r c : ℕ) → r < 512 → c < 64 → number_by (length world.now) result r c ≡ variable_at (standing bound.now world.now r c) x.now }
 {
     let count = block_count(world);
     let mut row = 1;
@@ -75,7 +75,7 @@ fn referent_of_variable(x: &Ident, world: &World, bound: &Bound<'_>) -> Referent
 
 /// The number of the block that has the name, for which no quantifier and no place stands.
 fn number_of_name(n: &Ident, world: &World, bound: &Bound<'_>) -> u32
-    ensures value { (r c : ℕ) → result ≡ number_at (standing bound.now world.now r c) (terms.Name n.now) }
+    ensures value { (r c : ℕ) → result ≡ name_at (standing bound.now world.now r c) n.now }
 {
     match bound {
         Bound::Given(places) => number_past_places(n, world, places),
@@ -85,19 +85,20 @@ fn number_of_name(n: &Ident, world: &World, bound: &Bound<'_>) -> u32
     }
 }
 
-/// The number of the block that the term stands for, where no quantifier is around it.
+/// The number of the block that the term stands for, where no quantifier is around it. A function stands for block 1.
 pub(crate) fn number(t: &Term, world: &World, places: &[Place]) -> u32
     ensures value { result ≡ number_at (given places.now (own_names world.now)) t.now }
 {
     match t {
         Term::Var(x) => number_of_place(x, world, places),
         Term::Name(n) => number_past_places(n, world, places),
+        Term::App(_, _) => 1,
     }
 }
 
 /// The number that is given for the variable; 1 where none is.
 fn number_of_place(x: &Ident, world: &World, places: &[Place]) -> u32
-    ensures value { result ≡ number_at (given places.now (own_names world.now)) (terms.Var x.now) }
+    ensures value { result ≡ variable_at (given places.now (own_names world.now)) x.now }
 {
     let mut number = 1;
     for place in places {
@@ -119,7 +120,7 @@ fn latest(place: &Place, x: &Ident, before: u32) -> u32
 
 /// The number of the block that has the name, for which no place stands.
 fn number_past_places(n: &Ident, world: &World, places: &[Place]) -> u32
-    ensures value { result ≡ number_at (given places.now (own_names world.now)) (terms.Name n.now) }
+    ensures value { result ≡ name_at (given places.now (own_names world.now)) n.now }
 {
     let _ = places;
     number_of_bearer(n, world)
@@ -127,7 +128,7 @@ fn number_past_places(n: &Ident, world: &World, places: &[Place]) -> u32
 
 /// The number of the block that has the name; 1 where none has it.
 fn number_of_bearer(n: &Ident, world: &World) -> u32
-    ensures value { result ≡ number_at (own_names world.now) (terms.Name n.now) }
+    ensures value { result ≡ name_at (own_names world.now) n.now }
 {
     let name = n.as_slice();
     if b"a".as_slice() == name {

@@ -14,6 +14,7 @@ mod extension;
 mod extent;
 mod first_row;
 mod junction;
+mod laws;
 mod line;
 mod pairs;
 mod predicate;
@@ -25,18 +26,13 @@ mod scales;
 mod squares;
 mod table;
 mod tabulation;
-#[cfg(test)]
-mod tests;
-#[cfg(test)]
-mod tests_of_tables;
-#[cfg(test)]
-mod tests_of_texts;
 mod units;
 mod valuation;
 
 pub use answer::{Place, Places, TruthFault, truth, truth_at};
 pub use block::{Block, Names, Shape, Size};
 pub use board::{World, block_count};
+pub use laws::assignment_laws;
 pub use predicate::Predicate;
 pub use print::print_world;
 pub use reading::{WorldFault, read_world};

@@ -14,3 +14,4 @@ mod Asking
 mod WrongRows
 mod MissingRows
 mod PrintingTables
+pub mod WordRows

@@ -11,3 +11,4 @@ pub mod StandardTable
 pub mod Questions
 pub mod Verdict
 pub mod Judges
+pub mod TableWords

@@ -45,7 +45,7 @@ pub fn check_table(
     );
     match read_asked(alloc, asked, text) {
         Ok(found) => {
-            let rows = make_rows(alloc, letters.as_slice(), sentences.as_slice())?;
+            let rows = make_rows(alloc, &letters, sentences.as_slice())?;
             let standard = Standard {
                 letters: letters.as_slice(),
                 sentences: sentences.as_slice(),

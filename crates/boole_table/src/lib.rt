@@ -11,14 +11,10 @@ mod laws;
 mod list_line;
 mod print;
 mod read;
-#[cfg(test)]
-mod read_tests;
 mod row_line;
 mod rows;
 mod standard;
 mod table;
-#[cfg(test)]
-mod tests;
 mod written;
 
 pub use check::check_table;

@@ -4,7 +4,7 @@ use Rattle.std.specs.Prelude.{not, ◌||◌, cond}
 use Rattle.std.specs.List.{flat_map, list_any, AllByRecursion}
 use Rattle.fol_core.specs.declared.sent.Sent.{Sent}
 use Rattle.fol_core.specs.Word.{Word}
-use Rattle.fol_core.specs.Closed.{closed}
+use Rattle.fol_core.specs.Statements.{statement}
 use Rattle.fol_core.proofs.Equality.{alike_refl}
 use Rattle.deriv_laws.specs.declared.rule.Rule.{Rule}
 use Rattle.deriv_laws.specs.declared.rule.Rule.TheVariants as r
@@ -114,7 +114,7 @@ joined_within gs (o ∷ os) (d ∷ ds) h = all_both (λ s. Contains gs s) (witho
 
 -- The builder. A rule that is in order, over parts that are derivable from what is given and what
 -- it discharges in them, gives its conclusion from what is given.
-pub built : (gs : List Sent) (rule : Rule) (b : Option Word) (ps : List Sent) (s : Sent) → (rule ≡ r.Assume → ⊥) → IsTrue (closed s) → Row rule b ps s →
+pub built : (gs : List Sent) (rule : Rule) (b : Option Word) (ps : List Sent) (s : Sent) → (rule ≡ r.Assume → ⊥) → IsTrue (statement s) → Row rule b ps s →
     ((os : List (List Sent)) → AreWithin gs os (discharged rule b ps s) → IsEigen rule b ps os s) →
     PartsFrom gs ps (discharged rule b ps s) → Der gs s
 built gs rule b ps s other c row eigen h =
@@ -123,7 +123,7 @@ built gs rule b ps s other c row eigen h =
     let os : List (List Sent) = map undischarged ts in
     let e : map concl ts ≡ ps = conclude_them gs ps ds h in
     from_node gs rule b s ts (valid_them gs ps ds h)
-    (record { closed_sentence = c; row = subst (λ qs. Row rule b qs s) (sym e) row; eigen = subst (λ qs. IsEigen rule b qs os s) (sym e) (eigen os (within_them gs ps ds h)) })
+    (record { stated = c; row = subst (λ qs. Row rule b qs s) (sym e) row; eigen = subst (λ qs. IsEigen rule b qs os s) (sym e) (eigen os (within_them gs ps ds h)) })
     (rw (open_other_at rule (node_from (layer rule b s ts)) other) (subst (λ qs. AllIn gs (joined os (discharged rule b qs s))) (sym e) (joined_within gs os ds (within_them gs ps ds h))))
 
 -- parts in which nothing is discharged
@@ -133,5 +133,5 @@ plain_parts gs (p ∷ ps) h = (h.0, plain_parts gs ps h.1)
 
 -- A rule that discharges nothing and boxes no constant.
 pub plain : (gs ps : List Sent) (rule : Rule) (s : Sent) → (rule ≡ r.Assume → ⊥) → discharged rule None ps s ≡ [] → ((os : List (List Sent)) → IsEigen rule None ps os s) →
-    AllByRecursion (λ p. Der gs p) ps → IsTrue (closed s) → Row rule None ps s → Der gs s
+    AllByRecursion (λ p. Der gs p) ps → IsTrue (statement s) → Row rule None ps s → Der gs s
 plain gs ps rule s other none eigen h c row = built gs rule None ps s other c row (λ os w. eigen os) (subst (λ ds. PartsFrom gs ps ds) (sym none) (plain_parts gs ps h))

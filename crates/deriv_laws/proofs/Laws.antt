@@ -3,7 +3,7 @@ use Rattle.std.proofs.Common.{List, [], ◌∷◌, ◌++◌, refl, subst, None, 
 use Rattle.std.specs.List.{flat_map, AllByRecursion}
 use Rattle.fol_core.specs.declared.sent.Sent.{Sent}
 use Rattle.fol_core.specs.declared.sent.Sent.TheVariants.{And}
-use Rattle.fol_core.specs.Closed.{closed}
+use Rattle.fol_core.specs.Statements.{statement}
 use Rattle.deriv_laws.specs.declared.rule.Rule.TheVariants as r
 use Rattle.deriv_laws.specs.declared.tree.Tree.{out-Tree}
 use Rattle.deriv_laws.specs.Trees.{nodes, undischarged, node_at}
@@ -14,9 +14,9 @@ use Rattle.deriv_laws.proofs.Members.{contains_there, contains_right}
 use Rattle.deriv_laws.proofs.Equations.{nodes_out}
 use Rattle.deriv_laws.proofs.Building.{from_node, plain}
 
--- A closed sentence is derivable wherever it is among what is given.
-pub assume : (gs : List Sent) (s : Sent) → Contains gs s → IsTrue (closed s) → Der gs s
-assume gs s h c = from_node gs r.Assume None s [] tt (record { closed_sentence = c; row = tt; eigen = tt }) (h, tt)
+-- A statement is derivable wherever it is among what is given.
+pub assume : (gs : List Sent) (s : Sent) → Contains gs s → IsTrue (statement s) → Der gs s
+assume gs s h c = from_node gs r.Assume None s [] tt (record { stated = c; row = tt; eigen = tt }) (h, tt)
 
 -- More may be given, in any order.
 pub weaken : (gs hs : List Sent) (s : Sent) → ((x : Sent) → Contains gs x → Contains hs x) → Der gs s → Der hs s
@@ -29,16 +29,16 @@ weaken_by gs p s h = weaken gs (p ∷ gs) s (λ x c. contains_there p x gs c) h
 pub weaken_before : (hs gs : List Sent) (s : Sent) → Der gs s → Der (hs ++ gs) s
 weaken_before hs gs s h = weaken gs (hs ++ gs) s (λ x c. contains_right hs gs x c) h
 
--- What is derivable is closed.
-pub der_closed : (gs : List Sent) (s : Sent) → Der gs s → IsTrue (closed s)
-der_closed gs s h =
+-- What is derivable is a statement.
+pub der_stated : (gs : List Sent) (s : Sent) → Der gs s → IsTrue (statement s)
+der_stated gs s h =
     let v : AllByRecursion Meets (node_at h.tree ∷ flat_map nodes (out-Tree h.tree).parts) = rw (nodes_out h.tree) at h.valid in
-    subst (λ x. IsTrue (closed x)) h.concludes v.0.closed_sentence
+    subst (λ x. IsTrue (statement x)) h.concludes v.0.stated
 
 -- Where each part is derivable, so is their conjunction.
-pub and_intro : (gs ps : List Sent) → AllByRecursion (λ p. Der gs p) ps → IsTrue (closed (And ps)) → Der gs (And ps)
+pub and_intro : (gs ps : List Sent) → AllByRecursion (λ p. Der gs p) ps → IsTrue (statement (And ps)) → Der gs (And ps)
 and_intro gs ps h c = plain gs ps r.AndIntro (And ps) (λ e. cc) refl (λ os. tt) h c refl
 
 -- Where a conjunction is derivable, so is each of its parts.
-pub and_elim : (gs parts : List Sent) (s : Sent) → Der gs (And parts) → Contains parts s → IsTrue (closed s) → Der gs s
+pub and_elim : (gs parts : List Sent) (s : Sent) → Der gs (And parts) → Contains parts s → IsTrue (statement s) → Der gs s
 and_elim gs parts s h i c = plain gs (And parts ∷ []) r.AndElim s (λ e. cc) refl (λ os. tt) (h, tt) c (parts, refl, i)

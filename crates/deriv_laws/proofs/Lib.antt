@@ -10,3 +10,4 @@ pub mod Discharging
 pub mod Quantifiers
 pub mod Instancing
 pub mod Avoiding
+pub mod Showing

@@ -1,6 +1,7 @@
 -- Discharge: which assumptions a node closes in each of its parts.
 use Rattle.std.specs.Prelude.{Bool, not, List, [], ◌∷◌, ◌++◌, map, filter, Option, Some}
 use Rattle.std.specs.List.{list_any}
+use Rattle.fol_core.specs.declared.sent.Term.TheVariants.{Name}
 use Rattle.fol_core.specs.declared.sent.Sent.{Sent, out-Sent}
 use Rattle.fol_core.specs.declared.sent.Sent.TheOpen as f
 use Rattle.fol_core.specs.Word.{Word}
@@ -45,9 +46,9 @@ discharged r.IffIntro b ps s = map (λ q. q ∷ []) (sides_of_iff s)
 discharged r.ExElim (Some c) (p ∷ ps) s = [] ∷ instance_of_ex c p ∷ []
 discharged _ _ _ _ = []
 
--- Whether two sentences are one sentence: alike at every place, with no name replaced by another.
+-- Whether two sentences are one sentence: alike at every place, with no term replaced by another.
 abbrev pub alike : Sent → Sent → Bool
-alike = repl [] []
+alike = repl (Name []) (Name [])
 
 -- The sentences ss in order, without every occurrence of a discharged one.
 abbrev pub without : List Sent → List Sent → List Sent

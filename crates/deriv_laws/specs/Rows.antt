@@ -1,10 +1,11 @@
 -- The inference rules of natural deduction: what a node concludes from what its parts conclude.
 use Rattle.std.specs.Prelude.{◌≡◌, IsTrue, List, [], ◌∷◌, length, replicate, Contains, Option, Some, None, ◌⊎◌}
-use Rattle.fol_core.specs.declared.sent.Term.TheVariants.{Name}
+use Rattle.fol_core.specs.declared.sent.Term.{Term}
 use Rattle.fol_core.specs.declared.sent.Sent.{Sent}
 use Rattle.fol_core.specs.declared.sent.Sent.TheVariants.{Eq, Bottom, Not, And, Or, If, Iff, All, Ex}
 use Rattle.fol_core.specs.Word.{Word}
-use Rattle.fol_core.specs.Subst.{subst_name}
+use Rattle.fol_core.specs.Subst.{subst_name, subst_closed_term}
+use Rattle.fol_core.specs.Statements.{ground}
 use Rattle.fol_core.specs.Alike.{repl}
 use Rattle.deriv_laws.specs.declared.rule.Rule.{Rule}
 use Rattle.deriv_laws.specs.declared.rule.Rule.TheVariants as r
@@ -38,16 +39,16 @@ Row r.IfElim None (q ∷ p ∷ []) s = q ≡ If p s
 Row r.IffIntro None (q ∷ p ∷ []) s = s ≡ Iff p q
 -- a biconditional and one of its sides give the other side
 Row r.IffElim None (q ∷ p ∷ []) s = (q ≡ Iff p s) ⊎ (q ≡ Iff s p)
--- each name is equal to itself
-Row r.EqIntro None [] s = (n : Word) × (s ≡ Eq (Name n) (Name n))
--- an equation between names lets some occurrences of either be replaced by the other
-Row r.EqElim None (e ∷ p ∷ []) s = (a : Word) × (b : Word) × (e ≡ Eq (Name a) (Name b)) × (IsTrue (repl a b p s) ⊎ IsTrue (repl b a p s))
+-- each ground term is equal to itself; that it is ground follows from the sentence's being a statement
+Row r.EqIntro None [] s = (a : Term) × (s ≡ Eq a a)
+-- an equation lets some occurrences of either of its terms be replaced by the other
+Row r.EqElim None (e ∷ p ∷ []) s = (a : Term) × (b : Term) × (e ≡ Eq a b) × (IsTrue (repl a b p s) ⊎ IsTrue (repl b a p s))
 -- the instance with the boxed constant gives the universal sentence
 Row r.AllIntro (Some c) (q ∷ []) s = (x : Word) × (p : Sent) × (s ≡ All x p) × (q ≡ subst_name x c p)
--- a universal sentence gives each of its instances with a name
-Row r.AllElim None (q ∷ []) s = (x : Word) × (p : Sent) × (n : Word) × (q ≡ All x p) × (s ≡ subst_name x n p)
--- an instance with a name gives the existential sentence
-Row r.ExIntro None (q ∷ []) s = (x : Word) × (p : Sent) × (n : Word) × (s ≡ Ex x p) × (q ≡ subst_name x n p)
+-- a universal sentence gives each of its instances with a ground term
+Row r.AllElim None (q ∷ []) s = (x : Word) × (p : Sent) × (a : Term) × IsTrue (ground a) × (q ≡ All x p) × (s ≡ subst_closed_term x a p)
+-- an instance with a ground term gives the existential sentence
+Row r.ExIntro None (q ∷ []) s = (x : Word) × (p : Sent) × (a : Term) × IsTrue (ground a) × (s ≡ Ex x p) × (q ≡ subst_closed_term x a p)
 -- an existential sentence, and a conclusion from its instance with the boxed constant, give this conclusion
 Row r.ExElim (Some c) (q ∷ t ∷ []) s = (x : Word) × (p : Sent) × (q ≡ Ex x p) × (t ≡ s)
 Row _ _ _ _ = ⊥

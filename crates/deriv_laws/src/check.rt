@@ -1,9 +1,10 @@
-ghost use Rattle.std.specs.Prelude.{◌≡◌, ℕ, ◌+◌, ◌<◌, List, [], ◌∷◌, ◌++◌, IfOk, OnOk, IsTrue, ◌↔◌, map, length, Contains};
+ghost use Rattle.std.specs.Prelude.{◌≡◌, ℕ, ◌+◌, ◌<◌, List, [], ◌∷◌, ◌++◌, IfOk, IfErr, OnOk, IsTrue, ◌↔◌, map, length, Contains};
 ghost use Rattle.std.specs.List.{flat_map, AllByRecursion};
 ghost use Rattle.fol_core.specs.declared.sent.Sent.{Sent};
 ghost use Rattle.fol_core.specs.declared.sent.Sent.TheVariants.{And};
 ghost use Rattle.deriv_laws.specs.Rows.{Row};
 ghost use Rattle.deriv_laws.specs.Trees.{concl, node_at, nodes, undischarged};
+ghost use Rattle.deriv_laws.specs.Derivable.{Der};
 ghost use Rattle.deriv_laws.specs.Valid.{Meets, IsValid};
 ghost use Rattle.deriv_laws.specs.Scan.{IsFirstBad, IsScan};
 ghost use Rattle.deriv_laws.specs.declared.tree.TreeFault.TheVariants as fault;
@@ -24,11 +25,12 @@ pub fn check_tree(alloc: Global, tree: &Tree) -> Result<Concl, TreeFault>
     ensures valid { IfOk result (λ c. IsValid tree.now) }
     ensures concludes { IfOk result (λ c. c.conclusion ≡ concl tree.now) }
     ensures assumes { IfOk result (λ c. c.assumptions ≡ undischarged tree.now) }
+    ensures derives { IfOk result (λ c. Der c.assumptions c.conclusion) }
     ensures bad { (k : ℕ) → result ≡ Err (fault.BadNode k) → (j : ℕ) × (k ≡ j + 1) × IsFirstBad (nodes tree.now) j }
     ensures refused { (j : ℕ) → IsFirstBad (nodes tree.now) j → result ≡ Err (fault.BadNode (j + 1)) }
 {
     match scan(tree) {
-        Ok(_) => read_off(alloc, tree).map_err(|_| TreeFault::Memory),
+        Ok(_) => answer(alloc, tree),
         Err(place) => Err(TreeFault::BadNode(place + 1)),
     }
 }
@@ -78,6 +80,15 @@ fn meets(tree: &Tree) -> bool
             tree.parts.as_slice(),
             &tree.sentence,
         )
+}
+
+/// The answer on a valid tree.
+fn answer(alloc: Global, tree: &Tree) -> Result<Concl, TreeFault>
+    ensures conclusion { IfOk result (λ c. c.conclusion ≡ concl tree.now) }
+    ensures assumptions { IfOk result (λ c. c.assumptions ≡ undischarged tree.now) }
+    ensures cause { IfErr result (λ e. e ≡ fault.Memory) }
+{
+    read_off(alloc, tree).map_err(|_| TreeFault::Memory)
 }
 
 /// The conclusion and the open assumptions of a tree.

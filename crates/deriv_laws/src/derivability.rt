@@ -1,4 +1,4 @@
-ghost use Rattle.deriv_laws.specs.Laws.{AssumptionLaw, WeakeningLaw, ConjunctionLaw, PartLaw, ClosedLaw};
+ghost use Rattle.deriv_laws.specs.Laws.{AssumptionLaw, WeakeningLaw, ConjunctionLaw, PartLaw, StatementLaw};
 ghost use Rattle.deriv_laws.specs.ConnectiveLaws.{AdditionLaw, CasesLaw, ContradictionLaw, DoubleNegationLaw, AbsurdityLaw, ExplosionLaw, DeductionLaw, DetachmentLaw, EquivalenceLaw, ForwardLaw, BackwardLaw, CutLaw};
 ghost use Rattle.deriv_laws.specs.QuantifierLaws.{SelfIdentityLaw, ReplacementLaw, InstantiationLaw, GeneralizationLaw, WitnessLaw, ArbitraryInstanceLaw};
 
@@ -9,7 +9,7 @@ pub fn conjunction_rules()
     ensures weakening { WeakeningLaw }
     ensures conjunction { ConjunctionLaw }
     ensures part { PartLaw }
-    ensures closed { ClosedLaw }
+    ensures statement { StatementLaw }
 {}
 
 /// The laws of derivability for disjunctions, negations, absurdity, conditionals and

@@ -10,8 +10,6 @@ mod line;
 mod quantified;
 mod rows;
 mod rule;
-#[cfg(test)]
-mod tests;
 mod tree;
 
 pub use check::check_tree;

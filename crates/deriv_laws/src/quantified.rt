@@ -1,30 +1,31 @@
 ghost use Rattle.std.specs.Prelude.{◌≡◌, ◌↔◌, ◌⊎◌, IsTrue};
 ghost use Rattle.fol_core.specs.declared.sent.Sent.{Sent as Sentence};
 ghost use Rattle.fol_core.specs.declared.sent.Sent.TheVariants.{Eq, All, Ex};
-ghost use Rattle.fol_core.specs.declared.sent.Term.TheVariants.{Name};
+ghost use Rattle.fol_core.specs.declared.sent.Term.{Term};
 ghost use Rattle.fol_core.specs.Word.{Word};
-ghost use Rattle.fol_core.specs.Subst.{subst_name};
+ghost use Rattle.fol_core.specs.Statements.{ground};
+ghost use Rattle.fol_core.specs.Subst.{subst_name, subst_closed_term};
 ghost use Rattle.fol_core.specs.Alike.{repl};
 
-use fol_core::{Ident, Sent, Term, is_instance, is_some_instance, replaces};
+use fol_core::{Ident, Sent, is_instance, is_some_instance, replaces, same_term};
 
-/// Whether the sentence is the equation of a name with itself.
+/// Whether the sentence is the equation of a term with itself.
 pub(crate) fn is_self_identity(s: &Sent) -> bool
-    ensures value { IsTrue result ↔ ((n : Word) × (s.now ≡ Eq (Name n) (Name n))) }
+    ensures value { IsTrue result ↔ ((a : Term) × (s.now ≡ Eq a a)) }
 {
     match s {
-        Sent::Eq(Term::Name(a), Term::Name(b)) => a.as_slice() == b.as_slice(),
+        Sent::Eq(a, b) => same_term(a, b),
         _ => false,
     }
 }
 
-/// Whether `e` is an equation between names, and the sentence comes from `p` by replacing some occurrences of one of them
-/// by the other.
+/// Whether `e` is an equation, and the sentence comes from `p` by replacing some occurrences of one of its terms by the
+/// other.
 pub(crate) fn is_by_equation(e: &Sent, p: &Sent, s: &Sent) -> bool
-    ensures value { IsTrue result ↔ ((a : Word) × (b : Word) × (e.now ≡ Eq (Name a) (Name b)) × (IsTrue (repl a b p.now s.now) ⊎ IsTrue (repl b a p.now s.now))) }
+    ensures value { IsTrue result ↔ ((a : Term) × (b : Term) × (e.now ≡ Eq a b) × (IsTrue (repl a b p.now s.now) ⊎ IsTrue (repl b a p.now s.now))) }
 {
     match e {
-        Sent::Eq(Term::Name(a), Term::Name(b)) => replaces(p, s, a, b) || replaces(p, s, b, a),
+        Sent::Eq(a, b) => replaces(p, s, a, b) || replaces(p, s, b, a),
         _ => false,
     }
 }
@@ -39,9 +40,9 @@ pub(crate) fn is_generalization(s: &Sent, q: &Sent, constant: &Ident) -> bool
     }
 }
 
-/// Whether `q` is universal, and the sentence is an instance of it by some name.
+/// Whether `q` is universal, and the sentence is an instance of it by some ground term.
 pub(crate) fn is_instance_of_all(s: &Sent, q: &Sent) -> bool
-    ensures value { IsTrue result ↔ ((x : Word) × (p : Sentence) × (n : Word) × (q.now ≡ All x p) × (s.now ≡ subst_name x n p)) }
+    ensures value { IsTrue result ↔ ((x : Word) × (p : Sentence) × (a : Term) × IsTrue (ground a) × (q.now ≡ All x p) × (s.now ≡ subst_closed_term x a p)) }
 {
     match q {
         Sent::All(x, p) => is_some_instance(p.get(), x, s),
@@ -49,9 +50,9 @@ pub(crate) fn is_instance_of_all(s: &Sent, q: &Sent) -> bool
     }
 }
 
-/// Whether the sentence is existential, and `q` is an instance of it by some name.
+/// Whether the sentence is existential, and `q` is an instance of it by some ground term.
 pub(crate) fn is_instance_of_ex(q: &Sent, s: &Sent) -> bool
-    ensures value { IsTrue result ↔ ((x : Word) × (p : Sentence) × (n : Word) × (s.now ≡ Ex x p) × (q.now ≡ subst_name x n p)) }
+    ensures value { IsTrue result ↔ ((x : Word) × (p : Sentence) × (a : Term) × IsTrue (ground a) × (s.now ≡ Ex x p) × (q.now ≡ subst_closed_term x a p)) }
 {
     match s {
         Sent::Ex(x, p) => is_some_instance(p.get(), x, q),

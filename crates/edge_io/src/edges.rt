@@ -93,30 +93,3 @@ impl<W: Sink> Sink for &mut W {
         Sink::write(&mut **self, piece)
     }
 }
-
-#[cfg(test)]
-mod tests {
-    use super::*;
-    use crate::{MemSink, MemSource};
-    use std::test::Fail;
-
-    /// Moves one byte.
-    fn move_one<S: Source + Drop, W: Sink + Drop>(
-        mut source: S,
-        mut sink: W,
-    ) -> Result<usize, Failed> {
-        let mut room = [0u8; 1];
-        let count = source.read(&mut room)?;
-        sink.write(&room[..count])
-    }
-
-    #[test]
-    fn lent_edges_are_edges(rt: HostRuntime) -> Result<(), Fail> {
-        let mut source = MemSource::new(rt.alloc(), b"ab", 2, &[])?;
-        let mut sink = MemSink::new(rt.alloc(), 2, 2, &[])?;
-        assert_eq!(rt; move_one(&mut source, &mut sink), Ok(1));
-        assert_eq!(rt; source.left(), b"b".as_slice());
-        assert_eq!(rt; sink.taken(), b"a".as_slice());
-        Ok(())
-    }
-}

@@ -107,26 +107,3 @@ impl Sink for MemSink {
         Ok(count)
     }
 }
-
-#[cfg(test)]
-mod tests {
-    use super::*;
-    use std::test::Fail;
-
-    #[test]
-    fn fails_at_the_listed_calls_and_where_it_is_full(rt: HostRuntime) -> Result<(), Fail> {
-        let mut sink = MemSink::new(rt.alloc(), 3, 2, &[2])?;
-        for (piece, answer, taken, failed) in [
-            (&b"abc"[..], Ok(2), &b"ab"[..], 0),
-            (b"c", Err(Failed), b"ab", 1),
-            (b"cd", Ok(1), b"abc", 1),
-            (b"", Ok(0), b"abc", 1),
-            (b"d", Err(Failed), b"abc", 2),
-        ] {
-            assert_eq!(rt; sink.write(piece), answer);
-            assert_eq!(rt; sink.taken(), taken);
-            assert_eq!(rt; sink.failed(), failed);
-        }
-        Ok(())
-    }
-}

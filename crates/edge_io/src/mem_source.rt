@@ -103,27 +103,3 @@ impl Source for MemSource {
         Ok(count)
     }
 }
-
-#[cfg(test)]
-mod tests {
-    use super::*;
-    use std::test::Fail;
-
-    #[test]
-    fn fails_at_the_listed_calls_and_gives_small_pieces(rt: HostRuntime) -> Result<(), Fail> {
-        let mut source = MemSource::new(rt.alloc(), b"abc", 2, &[2, 5])?;
-        let mut room = [0u8; 3];
-        for (answer, left, failed) in [
-            (Ok(2), &b"c"[..], 0),
-            (Err(Failed), b"c", 1),
-            (Ok(1), b"", 1),
-            (Ok(0), b"", 1),
-            (Err(Failed), b"", 2),
-        ] {
-            assert_eq!(rt; source.read(&mut room), answer);
-            assert_eq!(rt; source.left(), left);
-            assert_eq!(rt; source.failed(), failed);
-        }
-        Ok(())
-    }
-}

@@ -1,20 +1,23 @@
 -- The printed text of a well-formed sentence begins and ends with a visible byte and has no semicolon.
-use Rattle.std.proofs.Common.{◌≡◌, ℕ, Bool, true, List, [], ◌∷◌, ◌++◌, length, map, refl, sym, ap, ap₂, subst, ◌∙◌, arith}
+use Rattle.std.proofs.Common.{◌≡◌, ℕ, Bool, true, true≢false, List, [], ◌∷◌, ◌++◌, length, map, refl, sym, ap, ap₂, subst, ◌∙◌, arith}
 use Rattle.std.specs.Prelude.{◌&&◌, nat_le}
 use Rattle.std.specs.List.{list_all}
 use Rattle.std.proofs.lemmas.Bool.{and_parts}
 use Rattle.std.proofs.lemmas.Bool.Decides.{nat_tests}
-use Rattle.fol_core.specs.Word.{Word, is_letter, goes_on, is_ident, is_predicate, is_variable}
+use Rattle.fol_core.specs.Word.{Word, is_letter, goes_on, is_ident, is_predicate, is_variable, is_name}
 use Rattle.fol_core.specs.Subst.{itself}
 use Rattle.fol_core.specs.Blocks.{fits}
-use Rattle.fol_core.specs.Formed.{formed, formed_step, is_formed_term}
-use Rattle.fol_core.specs.declared.sent.Term.{Term}
-use Rattle.fol_core.specs.declared.sent.Term.TheVariants.{Var, Name}
+use Rattle.fol_core.specs.Formed.{formed, formed_step, is_formed_term, formed_term_step}
+use Rattle.fol_core.specs.declared.sent.Term.{Term, roll-Term}
+use Rattle.fol_core.specs.declared.sent.Term.TheOpen.{Term-F}
+use Rattle.fol_core.specs.declared.sent.Term.TheOpen as term
+use Rattle.fol_core.specs.declared.sent.Term.TheFolds.{ind-Term, fold-roll-Term, map-Term}
 use Rattle.fol_core.specs.declared.sent.Sent.{Sent, roll-Sent}
 use Rattle.fol_core.specs.declared.sent.Sent.TheOpen.{Sent-F}
 use Rattle.fol_core.specs.declared.sent.Sent.TheOpen as f
 use Rattle.fol_core.specs.declared.sent.Sent.TheFolds.{ind-Sent, fold-roll-Sent, map-Sent}
-use Rattle.fol_text.specs.Printed.{Texts, shown, printed, printed_step, plain, with_connective, separated, term_text, atom_text, in_parentheses}
+use Rattle.fol_core.proofs.Parts.{all_itself}
+use Rattle.fol_text.specs.Printed.{Texts, shown, printed, printed_step, plain, with_connective, separated, term_text, term_step, atom_text, in_parentheses}
 use Rattle.fol_text.proofs.WordKinds.{variable_ident, name_ident, predicate_ident}
 use Rattle.fitch_file.proofs.PrintingInk.{is_ink, may_stand, may_begin, ends_after, begins_append, ends_append, holds_append, Inked}
 
@@ -75,15 +78,63 @@ ident_ink (b ∷ bs) h =
     let d = and_parts (is_letter b) (list_all goes_on bs) h in
     record { begins = letter_begins b d.0; holds = ap₂ ◌&&◌ (letter_stands b d.0) (word_stands bs d.1); ends = word_ends b bs (letter_ink b d.0) d.1 }
 
-term_ink : (t : Term) → is_formed_term t ≡ true → Inked (term_text t)
-term_ink (Var x) i = ident_ink x (variable_ident x i)
-term_ink (Name n) i = ident_ink n (name_ident n i)
+abbrev IsInkedTerm : Term → Type 0
+IsInkedTerm u = is_formed_term u ≡ true → Inked (term_text u)
 
-terms_ink : (t : Term) (ts : List Term) → (is_formed_term t && list_all is_formed_term ts) ≡ true → Inked (separated (44 ∷ []) (map term_text (t ∷ ts)))
-terms_ink t [] i = term_ink t ((and_parts (is_formed_term t) true i).0)
-terms_ink t (u ∷ ts) i =
-    let d = and_parts (is_formed_term t) (is_formed_term u && list_all is_formed_term ts) i in
-    joined_left (term_text t) (44 ∷ []) (separated (44 ∷ []) (map term_text (u ∷ ts))) (term_ink t d.0) refl (terms_ink u ts d.1)
+-- each of the terms
+abbrev AreInkedTerms : List Term → Type 0
+AreInkedTerms [] = Unit {0}
+AreInkedTerms (u ∷ us) = IsInkedTerm u × AreInkedTerms us
+
+listed_ink : (u : Term) (us : List Term) → IsInkedTerm u → AreInkedTerms us → (is_formed_term u && list_all is_formed_term us) ≡ true → Inked (separated (44 ∷ []) (map term_text (u ∷ us)))
+listed_ink u [] f h i = f ((and_parts (is_formed_term u) true i).0)
+listed_ink u (v ∷ us) f h i =
+    let d = and_parts (is_formed_term u) (is_formed_term v && list_all is_formed_term us) i in
+    joined_left (term_text u) (44 ∷ []) (separated (44 ∷ []) (map term_text (v ∷ us))) (f d.0) refl (listed_ink v us h.0 h.1 d.1)
+
+called_ink : (g arguments : List ℕ) → Inked g → Inked arguments → Inked (g ++ in_parentheses arguments)
+called_ink g arguments h i = joined g [] (in_parentheses arguments) h refl (grouped arguments i)
+
+-- the induction over the term
+
+abbrev HeldTerm : Type 0
+HeldTerm = (u : Term) × IsInkedTerm u
+
+abbrev bare_term : Term-F HeldTerm → Term-F Term
+bare_term = map-Term HeldTerm Term (λ e. e.0)
+
+abbrev terms_of : List HeldTerm → List Term
+terms_of es = map (λ (e : HeldTerm). e.0) es
+
+all_held : (es : List HeldTerm) → AreInkedTerms (terms_of es)
+all_held [] = tt
+all_held (e ∷ es) = (e.1, all_held es)
+
+function_ink : (g : Word) (es : List HeldTerm) → ((is_name g && nat_le 1 (length (map is_formed_term (terms_of es)))) && list_all itself (map is_formed_term (terms_of es))) ≡ true →
+    Inked (g ++ in_parentheses (separated (44 ∷ []) (map term_text (terms_of es))))
+function_ink g [] i = absurd (true≢false (sym ((and_parts (is_name g) (nat_le 1 0) ((and_parts (is_name g && nat_le 1 0) true i).0)).1)))
+function_ink g (e ∷ es) i =
+    let (front, all) = and_parts (is_name g && nat_le 1 (length (map is_formed_term (terms_of (e ∷ es))))) (list_all itself (map is_formed_term (terms_of (e ∷ es)))) i in
+    let symbol = and_parts (is_name g) (nat_le 1 (length (map is_formed_term (terms_of (e ∷ es))))) front in
+    called_ink g (separated (44 ∷ []) (map term_text (terms_of (e ∷ es)))) (ident_ink g (name_ident g symbol.0))
+    (listed_ink e.0 (terms_of es) e.1 (all_held es) (sym (all_itself is_formed_term (terms_of (e ∷ es))) ∙ all))
+
+term_step_ink : (y : Term-F HeldTerm) → formed_term_step (map-Term Term Bool is_formed_term (bare_term y)) ≡ true → Inked (term_step (map-Term Term (List ℕ) term_text (bare_term y)))
+term_step_ink (term.Var x) i = ident_ink x (variable_ident x i)
+term_step_ink (term.Name n) i = ident_ink n (name_ident n i)
+term_step_ink (term.App g es) i = function_ink g es i
+
+term_ink : (u : Term) → is_formed_term u ≡ true → Inked (term_text u)
+term_ink = ind-Term IsInkedTerm (λ l y is.
+    subst (λ (m : Term-F Term). IsInkedTerm (roll-Term m)) is (λ i.
+    subst Inked (sym (fold-roll-Term (List ℕ) term_step (bare_term y))) (term_step_ink y (sym (fold-roll-Term Bool formed_term_step (bare_term y)) ∙ i))))
+
+all_inked : (us : List Term) → AreInkedTerms us
+all_inked [] = tt
+all_inked (u ∷ us) = (term_ink u, all_inked us)
+
+terms_ink : (u : Term) (us : List Term) → (is_formed_term u && list_all is_formed_term us) ≡ true → Inked (separated (44 ∷ []) (map term_text (u ∷ us)))
+terms_ink u us i = listed_ink u us (term_ink u) (all_inked us) i
 
 -- The three texts of a sentence.
 pub record ShowsInk (t : Texts) : Type 0 where

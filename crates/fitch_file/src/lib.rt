@@ -12,15 +12,11 @@ mod fault;
 mod laws;
 mod numbering;
 mod print;
-#[cfg(test)]
-mod print_tests;
 mod proof_line;
 mod proof_text;
 mod rule_names;
 mod task;
 mod task_text;
-#[cfg(test)]
-mod tests;
 mod words;
 
 pub use fault::{TaskFault, TextFault};

@@ -1,13 +1,18 @@
 -- What the definitions say of a conjunction and a disjunction.
-use Rattle.std.proofs.Common.{◌≡◌, ℕ, List, [], length, map, ap, sym, ◌∙◌, rules, Bool, true, IsTrue, Contains}
+use Rattle.std.proofs.Common.{◌≡◌, ℕ, List, [], length, map, ap, ap₂, sym, ◌∙◌, rules, Bool, true, IsTrue, Contains}
 use Rattle.std.proofs.lemmas.List.Elements.{All-contains}
 use Rattle.std.proofs.lemmas.List.Sums.{AllPass-from_list_all}
+use Rattle.std.specs.Prelude.{◌&&◌, nat_le}
 use Rattle.std.specs.List.{list_any, list_all}
 use Rattle.fol_core.specs.declared.sent.Sent.{Sent, Atom, And, Or, out-Sent, the_lemmas}
 use Rattle.fol_core.specs.declared.sent.Sent.TheOpen as f
 use Rattle.fol_core.specs.declared.sent.Term.{Term}
 use Rattle.fol_core.specs.Subst.{itself, occurs, subst_where}
-use Rattle.fol_core.specs.Closed.{closed_under, closed}
+use Rattle.std.proofs.lemmas.Bool.{and_parts as both_true}
+use Rattle.std.proofs.lemmas.List.{length-map}
+use Rattle.fol_core.specs.Closed.{closed_under}
+use Rattle.fol_core.specs.Statements.{stated_under, statement}
+use Rattle.fol_core.proofs.Stating.{stated_each_and, stated_each_or}
 use Rattle.fol_core.specs.Word.{Word}
 use Rattle.fol_core.specs.Blocks.{has_places, fits}
 use Rattle.fol_core.proofs.Parts.{any_itself, all_itself, all_applied, each_applied}
@@ -24,10 +29,16 @@ closed_and parts bound = let e : closed_under (And parts) bound ≡ list_all (λ
 pub closed_or : (parts : List Sent) (bound : List (List ℕ)) → closed_under (Or parts) bound ≡ list_all (λ s. closed_under s bound) parts
 closed_or parts bound = let e : closed_under (Or parts) bound ≡ list_all (λ g. g bound) (map closed_under parts) = search (rules, the_lemmas) in e ∙ all_applied closed_under bound parts
 
-pub subst_and : (x n : List ℕ) (parts : List Sent) (free : Bool) → subst_where x n (And parts) free ≡ And (map (λ s. subst_where x n s free) parts)
+pub stated_and : (parts : List Sent) (bound : List (List ℕ)) → stated_under (And parts) bound ≡ (nat_le 2 (length parts) && list_all (λ s. stated_under s bound) parts)
+stated_and parts bound = stated_each_and parts bound ∙ ap₂ (λ n a. nat_le 2 n && a) (length-map parts stated_under) (all_applied stated_under bound parts)
+
+pub stated_or : (parts : List Sent) (bound : List (List ℕ)) → stated_under (Or parts) bound ≡ (nat_le 2 (length parts) && list_all (λ s. stated_under s bound) parts)
+stated_or parts bound = stated_each_or parts bound ∙ ap₂ (λ n a. nat_le 2 n && a) (length-map parts stated_under) (all_applied stated_under bound parts)
+
+pub subst_and : (x : Word) (n : Term) (parts : List Sent) (free : Bool) → subst_where x n (And parts) free ≡ And (map (λ s. subst_where x n s free) parts)
 subst_and x n parts free = let e : subst_where x n (And parts) free ≡ And (map (λ g. g free) (map (subst_where x n) parts)) = search (rules, the_lemmas) in e ∙ ap And (each_applied (subst_where x n) free parts)
 
-pub subst_or : (x n : List ℕ) (parts : List Sent) (free : Bool) → subst_where x n (Or parts) free ≡ Or (map (λ s. subst_where x n s free) parts)
+pub subst_or : (x : Word) (n : Term) (parts : List Sent) (free : Bool) → subst_where x n (Or parts) free ≡ Or (map (λ s. subst_where x n s free) parts)
 subst_or x n parts free = let e : subst_where x n (Or parts) free ≡ Or (map (λ g. g free) (map (subst_where x n) parts)) = search (rules, the_lemmas) in e ∙ ap Or (each_applied (subst_where x n) free parts)
 
 pub places_and : (parts : List Sent) → has_places (And parts) ≡ list_all has_places parts
@@ -55,16 +66,12 @@ and_parts {ps} {qs} e = sym (parts_of_and ps) ∙ ap parts_of e ∙ parts_of_and
 pub or_parts : {ps qs : List Sent} → Or ps ≡ Or qs → ps ≡ qs
 or_parts {ps} {qs} e = sym (parts_of_or ps) ∙ ap parts_of e ∙ parts_of_or qs
 
--- A part of a closed conjunction is closed, and so is a part of a closed disjunction.
-pub closed_conjunct : (parts : List Sent) (part : Sent) → IsTrue (closed (And parts)) → Contains parts part → IsTrue (closed part)
-closed_conjunct parts part h i = All-contains (λ s. IsTrue (closed s)) parts part (AllPass-from_list_all closed parts (sym (closed_and parts []) ∙ h)) i
+-- A part of a conjunction that is a statement is a statement, and so is a part of such a disjunction.
+parts_stated : (parts : List Sent) (part : Sent) → (nat_le 2 (length parts) && list_all statement parts) ≡ true → Contains parts part → IsTrue (statement part)
+parts_stated parts part h i = All-contains (λ s. IsTrue (statement s)) parts part (AllPass-from_list_all statement parts ((both_true (nat_le 2 (length parts)) _ h).1)) i
 
-pub closed_disjunct : (parts : List Sent) (part : Sent) → IsTrue (closed (Or parts)) → Contains parts part → IsTrue (closed part)
-closed_disjunct parts part h i = All-contains (λ s. IsTrue (closed s)) parts part (AllPass-from_list_all closed parts (sym (closed_or parts []) ∙ h)) i
+pub conjunct_stated : (parts : List Sent) (part : Sent) → IsTrue (statement (And parts)) → Contains parts part → IsTrue (statement part)
+conjunct_stated parts part h i = parts_stated parts part (sym (stated_and parts []) ∙ h) i
 
--- Where each part is closed, so are their conjunction and their disjunction.
-pub and_closed : (parts : List Sent) → list_all closed parts ≡ true → IsTrue (closed (And parts))
-and_closed parts h = closed_and parts [] ∙ h
-
-pub or_closed : (parts : List Sent) → list_all closed parts ≡ true → IsTrue (closed (Or parts))
-or_closed parts h = closed_or parts [] ∙ h
+pub disjunct_stated : (parts : List Sent) (part : Sent) → IsTrue (statement (Or parts)) → Contains parts part → IsTrue (statement part)
+disjunct_stated parts part h i = parts_stated parts part (sym (stated_or parts []) ∙ h) i

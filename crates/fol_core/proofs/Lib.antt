@@ -1,6 +1,9 @@
 pub mod Parts
+pub mod Terms
 pub mod Forms
+pub mod TermEquality
 pub mod Equality
+pub mod Stating
 pub mod Closing
 pub mod Instances
 pub mod Forming

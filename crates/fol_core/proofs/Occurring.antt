@@ -6,12 +6,12 @@ use Rattle.fol_core.specs.declared.sent.Term.{Term}
 use Rattle.fol_core.specs.declared.sent.Sent.{Sent, the_lemmas}
 use Rattle.fol_core.specs.declared.sent.Sent.TheVariants as s
 use Rattle.fol_core.specs.Word.{Word}
-use Rattle.fol_core.specs.Subst.{is_the_name, occurs}
+use Rattle.fol_core.specs.Subst.{occurs_in_term, occurs}
 
-pub occurs_atom : (n : Word) (p : Word) (ts : List Term) → occurs n (s.Atom p ts) ≡ list_any (is_the_name n) ts
+pub occurs_atom : (n : Word) (p : Word) (ts : List Term) → occurs n (s.Atom p ts) ≡ list_any (occurs_in_term n) ts
 occurs_atom n p ts = search (rules, the_lemmas)
 
-pub occurs_eq : (n : Word) (a b : Term) → occurs n (s.Eq a b) ≡ (is_the_name n a || is_the_name n b)
+pub occurs_eq : (n : Word) (a b : Term) → occurs n (s.Eq a b) ≡ (occurs_in_term n a || occurs_in_term n b)
 occurs_eq n a b = search (rules, the_lemmas)
 
 pub occurs_bottom : (n : Word) → occurs n s.Bottom ≡ false

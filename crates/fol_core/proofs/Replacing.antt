@@ -16,34 +16,34 @@ paired f [] (y ∷ ys) = refl
 paired f (x ∷ xs) [] = refl
 paired f (x ∷ xs) (y ∷ ys) = ap (λ b. f x y && b) (paired f xs ys)
 
-pub repl_atom : (n m : Word) (p q : Word) (ts us : List Term) → repl n m (s.Atom p ts) (s.Atom q us) ≡ (bytes_eq p q && all_pairs (repl_term n m) ts us)
+pub repl_atom : (n m : Term) (p q : Word) (ts us : List Term) → repl n m (s.Atom p ts) (s.Atom q us) ≡ (bytes_eq p q && all_pairs (repl_term n m) ts us)
 repl_atom n m p q ts us = search (rules, the_lemmas)
 
-pub repl_eq : (n m : Word) (a b c d : Term) → repl n m (s.Eq a b) (s.Eq c d) ≡ (repl_term n m a c && repl_term n m b d)
+pub repl_eq : (n m : Term) (a b c d : Term) → repl n m (s.Eq a b) (s.Eq c d) ≡ (repl_term n m a c && repl_term n m b d)
 repl_eq n m a b c d = search (rules, the_lemmas)
 
-pub repl_not : (n m : Word) (p q : Sent) → repl n m (s.Not p) (s.Not q) ≡ repl n m p q
+pub repl_not : (n m : Term) (p q : Sent) → repl n m (s.Not p) (s.Not q) ≡ repl n m p q
 repl_not n m p q = search (rules, the_lemmas)
 
-pub repl_if : (n m : Word) (p q p' q' : Sent) → repl n m (s.If p q) (s.If p' q') ≡ (repl n m p p' && repl n m q q')
+pub repl_if : (n m : Term) (p q p' q' : Sent) → repl n m (s.If p q) (s.If p' q') ≡ (repl n m p p' && repl n m q q')
 repl_if n m p q p' q' = search (rules, the_lemmas)
 
-pub repl_iff : (n m : Word) (p q p' q' : Sent) → repl n m (s.Iff p q) (s.Iff p' q') ≡ (repl n m p p' && repl n m q q')
+pub repl_iff : (n m : Term) (p q p' q' : Sent) → repl n m (s.Iff p q) (s.Iff p' q') ≡ (repl n m p p' && repl n m q q')
 repl_iff n m p q p' q' = search (rules, the_lemmas)
 
-pub repl_all : (n m : Word) (x y : Word) (p q : Sent) → repl n m (s.All x p) (s.All y q) ≡ (bytes_eq x y && repl n m p q)
+pub repl_all : (n m : Term) (x y : Word) (p q : Sent) → repl n m (s.All x p) (s.All y q) ≡ (bytes_eq x y && repl n m p q)
 repl_all n m x y p q = search (rules, the_lemmas)
 
-pub repl_ex : (n m : Word) (x y : Word) (p q : Sent) → repl n m (s.Ex x p) (s.Ex y q) ≡ (bytes_eq x y && repl n m p q)
+pub repl_ex : (n m : Term) (x y : Word) (p q : Sent) → repl n m (s.Ex x p) (s.Ex y q) ≡ (bytes_eq x y && repl n m p q)
 repl_ex n m x y p q = search (rules, the_lemmas)
 
-pub repl_bottom : (n m : Word) → repl n m s.Bottom s.Bottom ≡ true
+pub repl_bottom : (n m : Term) → repl n m s.Bottom s.Bottom ≡ true
 repl_bottom n m = search (rules, the_lemmas)
 
-pub repl_and : (n m : Word) (ps qs : List Sent) → repl n m (s.And ps) (s.And qs) ≡ all_pairs (repl n m) ps qs
+pub repl_and : (n m : Term) (ps qs : List Sent) → repl n m (s.And ps) (s.And qs) ≡ all_pairs (repl n m) ps qs
 repl_and n m ps qs = let e : repl n m (s.And ps) (s.And qs) ≡ pairwise (map (repl n m) ps) qs = search (rules, the_lemmas) in e ∙ paired (repl n m) ps qs
 
-pub repl_or : (n m : Word) (ps qs : List Sent) → repl n m (s.Or ps) (s.Or qs) ≡ all_pairs (repl n m) ps qs
+pub repl_or : (n m : Term) (ps qs : List Sent) → repl n m (s.Or ps) (s.Or qs) ≡ all_pairs (repl n m) ps qs
 repl_or n m ps qs = let e : repl n m (s.Or ps) (s.Or qs) ≡ pairwise (map (repl n m) ps) qs = search (rules, the_lemmas) in e ∙ paired (repl n m) ps qs
 
 fails_right : (a b : Bool) → b ≡ false → (a && b) ≡ false

@@ -7,3 +7,6 @@ pub mod Alike
 pub mod Blocks
 pub mod Formed
 pub mod Naming
+pub mod Put
+pub mod Kept
+pub mod Statements

@@ -40,6 +40,22 @@ fn same_all(a: &[Sent], b: &[Sent]) -> bool
     true
 }
 
+/// Whether the two are one term.
+#[cycle(terms)]
+pub fn same_term(a: &Term, b: &Term) -> bool
+    ensures value { IsTrue result ↔ (a.now ≡ b.now) }
+{
+    match (a, b) {
+        (Term::Var(x), Term::Var(y)) => same_ident(x, y),
+        (Term::Name(m), Term::Name(n)) => same_ident(m, n),
+        (Term::App(f, ts), Term::App(g, us)) => {
+            same_ident(f, g) && same_terms(ts.as_slice(), us.as_slice())
+        }
+        _ => false,
+    }
+}
+
+#[cycle(terms)]
 fn same_terms(a: &[Term], b: &[Term]) -> bool
     ensures value { IsTrue result ↔ (a.now ≡ b.now) }
 {
@@ -52,21 +68,6 @@ fn same_terms(a: &[Term], b: &[Term]) -> bool
         }
     }
     true
-}
-
-fn same_term(a: &Term, b: &Term) -> bool
-    ensures value { IsTrue result ↔ (a.now ≡ b.now) }
-{
-    match a {
-        Term::Var(x) => match b {
-            Term::Var(y) => same_ident(x, y),
-            Term::Name(_) => false,
-        },
-        Term::Name(m) => match b {
-            Term::Name(n) => same_ident(m, n),
-            Term::Var(_) => false,
-        },
-    }
 }
 
 /// Whether the sentence is one of these. It takes no memory.

@@ -1,7 +1,7 @@
 ghost use Rattle.std.specs.Prelude.{◌≡◌, IfOk};
 
 use crate::sent::{Sent, Sents, Term, Terms};
-use lists::{Listed, Several};
+use lists::{Listed, Nonempty, Several};
 use sqlite_items::Boxed;
 use std::alloc::{AllocError, Global};
 
@@ -46,6 +46,7 @@ fn copy_all(alloc: Global, parts: &[Sent]) -> Result<Sents, AllocError>
     Ok(copies)
 }
 
+#[cycle(copy_term)]
 fn copy_terms(alloc: Global, terms: &[Term]) -> Result<Terms, AllocError>
     ensures value { IfOk result (λ copied. copied ≡ terms.now) }
 {
@@ -56,11 +57,17 @@ fn copy_terms(alloc: Global, terms: &[Term]) -> Result<Terms, AllocError>
     Ok(copies)
 }
 
-fn copy_term(alloc: Global, term: &Term) -> Result<Term, AllocError>
+/// The same term once more.
+#[cycle(copy_term)]
+pub fn copy_term(alloc: Global, term: &Term) -> Result<Term, AllocError>
     ensures value { IfOk result (λ copied. copied ≡ term.now) }
 {
     match term {
         Term::Var(x) => Ok(Term::Var(x.copied(alloc)?)),
         Term::Name(n) => Ok(Term::Name(n.copied(alloc)?)),
+        Term::App(f, args) => Ok(Term::App(
+            f.copied(alloc)?,
+            Nonempty::of(copy_terms(alloc, args.as_slice())?),
+        )),
     }
 }

@@ -12,18 +12,14 @@ mod replacement;
 mod sent;
 mod size;
 mod substitution;
-#[cfg(test)]
-mod tests;
-#[cfg(test)]
-mod tests_of_names;
 
-pub use alike::{contains, same};
-pub use closed::is_closed;
-pub use copies::copy;
+pub use alike::{contains, same, same_term};
+pub use closed::{is_closed, is_closed_term};
+pub use copies::{copy, copy_term};
 pub use ident::{Ident, same_ident};
-pub use instance::{instance_name, is_instance, is_some_instance};
+pub use instance::{instance_term, is_instance, is_instance_by, is_some_instance};
 pub use occurrence::occurs;
 pub use replacement::replaces;
-pub use sent::{Parts, Sent, SentFault, Sents, Term, Terms};
+pub use sent::{Args, Parts, Sent, SentFault, Sents, Term, Terms};
 pub use size::within;
 pub use substitution::subst;

@@ -1,6 +1,6 @@
 ghost use Rattle.std.specs.Prelude.{◌≡◌};
 ghost use Rattle.std.specs.List.{list_any};
-ghost use Rattle.fol_core.specs.Subst.{is_the_name, occurs as stands_in};
+ghost use Rattle.fol_core.specs.Subst.{occurs_in_term, occurs as stands_in};
 
 use crate::ident::{Ident, same_ident};
 use crate::sent::{Sent, Term};
@@ -13,7 +13,7 @@ pub fn occurs(s: &Sent, name: &Ident) -> bool
 {
     match s {
         Sent::Atom(_, terms) => is_in_terms(terms.as_slice(), name),
-        Sent::Eq(a, b) => is_name(a, name) || is_name(b, name),
+        Sent::Eq(a, b) => is_in_term(a, name) || is_in_term(b, name),
         Sent::Bottom => false,
         Sent::Not(a) | Sent::All(_, a) | Sent::Ex(_, a) => occurs(a.get(), name),
         Sent::And(parts) | Sent::Or(parts) => occurs_in_any(parts.as_slice(), name),
@@ -33,17 +33,26 @@ fn occurs_in_any(parts: &[Sent], name: &Ident) -> bool
     false
 }
 
+#[cycle(in_term)]
 fn is_in_terms(terms: &[Term], name: &Ident) -> bool
-    ensures value { result ≡ list_any (is_the_name name.now) terms.now }
+    ensures value { result ≡ list_any (occurs_in_term name.now) terms.now }
 {
-    terms.iter().any(|term| is_name(term, name))
+    for term in terms {
+        if is_in_term(term, name) {
+            return true;
+        }
+    }
+    false
 }
 
-fn is_name(term: &Term, name: &Ident) -> bool
-    ensures value { result ≡ is_the_name name.now term.now }
+#[cycle(in_term)]
+#[tactic(auto, using(crate::proofs::Terms::in_app))]
+fn is_in_term(term: &Term, name: &Ident) -> bool
+    ensures value { result ≡ occurs_in_term name.now term.now }
 {
     match term {
         Term::Var(_) => false,
         Term::Name(m) => same_ident(m, name),
+        Term::App(_, args) => is_in_terms(args.as_slice(), name),
     }
 }

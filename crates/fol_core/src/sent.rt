@@ -1,14 +1,18 @@
 use crate::ident::Ident;
-use lists::{Listed, Several};
+use lists::{Listed, Nonempty, Several};
 use sqlite_items::Boxed;
 use thiserror::Error;
 
-/// What a predicate or an equation is about: a variable or a name. There are no function symbols.
+/// What a predicate, an equation or a function is about: a variable, a name, or a function of one term or more.
 #[derive(Debug, Drop)]
 pub enum Term {
     Var(Ident),
     Name(Ident),
+    App(Ident, Args),
 }
+
+/// The arguments of a function, in their order. There is at least one.
+pub type Args = Nonempty<Term>;
 
 /// The terms of an atomic sentence, in their order.
 pub type Terms = Listed<Term>;

@@ -1,9 +1,9 @@
 ghost use Rattle.std.specs.Prelude.{◌≡◌, min, map};
-ghost use Rattle.fol_core.specs.Size.{depth, greatest, total, nodes, within_limits};
+ghost use Rattle.fol_core.specs.Size.{depth, greatest, total, nodes, term_depth, term_nodes, within_limits};
 
-use crate::sent::{Sent, SentFault};
+use crate::sent::{Sent, SentFault, Term};
 
-/// The greatest depth of a sentence. An atomic sentence has depth 1.
+/// The greatest depth of a sentence. An atomic sentence without functions has depth 1.
 const MOST_DEPTH: u32 = 60;
 
 /// The greatest number of nodes of a sentence, where each term is one.
@@ -28,7 +28,13 @@ fn depth_of(s: &Sent) -> u32
     ensures value { result ≡ min (depth s.now) 4294967295 }
 {
     match s {
-        Sent::Atom(_, _) | Sent::Eq(_, _) | Sent::Bottom => 1,
+        Sent::Atom(_, terms) => deepest_term(terms.as_slice()).saturating_add(1),
+        Sent::Eq(a, b) => {
+            let left = term_depth_of(a);
+            let right = term_depth_of(b);
+            left.max(right).saturating_add(1)
+        }
+        Sent::Bottom => 1,
         Sent::Not(a) | Sent::All(_, a) | Sent::Ex(_, a) => depth_of(a.get()).saturating_add(1),
         Sent::And(parts) | Sent::Or(parts) => deepest(parts.as_slice()).saturating_add(1),
         Sent::If(a, b) | Sent::Iff(a, b) => {
@@ -59,8 +65,12 @@ fn nodes_of(s: &Sent) -> u32
     ensures value { result ≡ min (nodes s.now) 4294967295 }
 {
     match s {
-        Sent::Atom(_, terms) => saturated(terms.len()).saturating_add(1),
-        Sent::Eq(_, _) => 3,
+        Sent::Atom(_, terms) => nodes_of_terms(terms.as_slice()).saturating_add(1),
+        Sent::Eq(a, b) => {
+            let left = term_nodes_of(a);
+            let right = term_nodes_of(b);
+            left.saturating_add(right).saturating_add(1)
+        }
         Sent::Bottom => 1,
         Sent::Not(a) | Sent::All(_, a) | Sent::Ex(_, a) => nodes_of(a.get()).saturating_add(1),
         Sent::And(parts) | Sent::Or(parts) => nodes_of_all(parts.as_slice()).saturating_add(1),
@@ -83,12 +93,49 @@ fn nodes_of_all(parts: &[Sent]) -> u32
     total
 }
 
-fn saturated(count: usize) -> u32
-    ensures value { result ≡ min count 4294967295 }
+/// The depth of a term, as far as the type counts.
+#[cycle(term_depth)]
+fn term_depth_of(term: &Term) -> u32
+    ensures value { result ≡ min (term_depth term.now) 4294967295 }
 {
-    if count > 4294967295 {
-        u32::MAX
-    } else {
-        count as u32
+    match term {
+        Term::Var(_) | Term::Name(_) => 0,
+        Term::App(_, args) => deepest_term(args.as_slice()).saturating_add(1),
     }
+}
+
+#[cycle(term_depth)]
+fn deepest_term(terms: &[Term]) -> u32
+    ensures value { result ≡ min (greatest (map term_depth terms.now)) 4294967295 }
+{
+    let mut most = 0;
+    for term in terms {
+        let here = term_depth_of(term);
+        if here > most {
+            most = here;
+        }
+    }
+    most
+}
+
+/// The number of nodes of a term, as far as the type counts.
+#[cycle(term_nodes)]
+fn term_nodes_of(term: &Term) -> u32
+    ensures value { result ≡ min (term_nodes term.now) 4294967295 }
+{
+    match term {
+        Term::Var(_) | Term::Name(_) => 1,
+        Term::App(_, args) => nodes_of_terms(args.as_slice()).saturating_add(1),
+    }
+}
+
+#[cycle(term_nodes)]
+fn nodes_of_terms(terms: &[Term]) -> u32
+    ensures value { result ≡ min (total (map term_nodes terms.now)) 4294967295 }
+{
+    let mut total: u32 = 0;
+    for term in terms {
+        total = total.saturating_add(term_nodes_of(term));
+    }
+    total
 }

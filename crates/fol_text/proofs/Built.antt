@@ -19,11 +19,17 @@ use Rattle.fol_text.specs.declared.state.Relation.TheVariants.{Same, Different}
 use Rattle.fol_text.specs.declared.state.Begun.{Begun}
 use Rattle.fol_text.specs.declared.state.Begun.TheVariants.{Nothing, Conjunction, Disjunction, Conditional, Biconditional}
 use Rattle.fol_text.specs.declared.state.Mode.{Mode}
-use Rattle.fol_text.specs.declared.state.Mode.TheVariants.{WantsPart, WantsVariable, HasPredicate, WantsArgument, HasArgument, HasLeft, WantsRight, HasPart}
+use Rattle.fol_text.specs.declared.state.Mode.TheVariants.{WantsPart, WantsVariable, HasPredicate, WantsTerm, HasTerm, HasPart}
+use Rattle.fol_text.specs.declared.state.Read.{Read}
+use Rattle.fol_text.specs.declared.state.Read.TheVariants.{Variable, Symbol, Function}
+use Rattle.fol_text.specs.declared.state.Spot.{Spot}
+use Rattle.fol_text.specs.declared.state.Spot.TheVariants.{Argument, Left, Right}
+use Rattle.fol_text.specs.declared.state.Call.{Call}
 use Rattle.fol_text.specs.declared.state.Group.{Group}
 use Rattle.fol_text.specs.declared.state.State.{State}
-use Rattle.fol_text.specs.Grammar.{SpellsTerm, variable, name, SpellsTerms, SpellsParts, SpellsPart, letter, falsum, negation, universal, existential}
-use Rattle.fol_text.specs.Machine.{state, group_of, wrapped, finished, negated, open_group, term_of, with_term, begin_part, take_variable, begin}
+use Rattle.fol_text.specs.Grammar.{SpellsTerm, variable, name, function, SpellsTerms, SpellsParts, SpellsPart, letter, falsum, negation, universal, existential}
+use Rattle.fol_text.proofs.WordKinds.{IsWord, a_variable, a_name, word_is}
+use Rattle.fol_text.specs.Machine.{state, group_of, wrapped, finished, negated, open_group, word_of, with_word, read_term, begin_part, take_variable, begin}
 
 -- the tokens spell the parts, with the sign behind each of them
 abbrev pub Chained : Token → ℕ → List Sent → List Token → Type 0
@@ -59,22 +65,58 @@ Inside top n (g ∷ o) ks =
     × (BegunBy g.room g.begun chain × (Prefixed g.prefixes front × (ks ≡ before ++ chain ++ front ++ Open ∷ [])))))))
 
 -- the tokens spell the terms, with a comma behind each of them
-abbrev pub Listing : List Term → List Token → Type 0
-Listing ts ks = ((ts ≡ []) × (ks ≡ [])) ⊎ ((js : List Token) × (SpellsTerms js ts × (ks ≡ js ++ Comma ∷ [])))
+abbrev pub Listing : ℕ → List Term → List Token → Type 0
+Listing n ts ks = ((ts ≡ []) × (ks ≡ [])) ⊎ ((js : List Token) × (SpellsTerms n js ts × (ks ≡ js ++ Comma ∷ [])))
 
 abbrev pub relation_sign : Relation → Token
 relation_sign Same = Equals
 relation_sign Different = Unequal
+
+-- the tokens before a term that stands at this spot, in no function
+abbrev pub AtSpot : ℕ → Spot → List Token → Type 0
+AtSpot n (Argument p ts) ks = (is_predicate p ≡ true) × ((js : List Token) × (Listing n ts js × (ks ≡ Identifier p ∷ Open ∷ js)))
+AtSpot n Left ks = ks ≡ []
+AtSpot n (Right a r) ks = (js : List Token) × (SpellsTerm n js a × (ks ≡ js ++ relation_sign r ∷ []))
+
+-- the tokens lead from such a place into these functions, the innermost of which comes first, and in it so much room is left
+abbrev pub InCalls : ℕ → List Call → ℕ → List Token → Type 0
+InCalls n [] m ks = (m ≡ n) × (ks ≡ [])
+InCalls n (c ∷ cs) m ks = (outside : List Token) × ((js : List Token) × ((is_name c.symbol ≡ true) × (InCalls n cs (suc m) outside × (Listing m c.arguments js × (ks ≡ outside ++ Identifier c.symbol ∷ Open ∷ js)))))
+
+-- the tokens are what is read of a term
+abbrev pub IsRead : ℕ → Read → List Token → Type 0
+IsRead m (Variable x) ks = (is_variable x ≡ true) × (ks ≡ Identifier x ∷ [])
+IsRead m (Symbol k) ks = (is_name k ≡ true) × (ks ≡ Identifier k ∷ [])
+IsRead m (Function t) ks = SpellsTerm m ks t
+
+-- the tokens before a term that has to come; on the left of an equation the first word has come already
+pub record ToTerm (n : ℕ) (spot : Spot) (cs : List Call) (ks : List Token) : Type 0 where
+  pub outer : List Token
+  pub inner : List Token
+  pub left : ℕ
+  pub at : AtSpot n spot outer
+  pub calls : InCalls n cs left inner
+  pub all : ks ≡ outer ++ inner
+
+abbrev pub NotFirst : Spot → List Call → Type 0
+NotFirst Left [] = ⊥
+NotFirst spot cs = Unit {0}
+
+-- the tokens with a term behind them
+pub record WithTerm (n : ℕ) (spot : Spot) (cs : List Call) (r : Read) (ks : List Token) : Type 0 where
+  pub before : List Token
+  pub to : ToTerm n spot cs before
+  pub term : List Token
+  pub is_read : IsRead to.left r term
+  pub all : ks ≡ before ++ term
 
 -- the tokens of a part that has begun, behind these prefixes and in the room that they leave
 abbrev Pending : List Prefix → ℕ → Mode → List Token → Type 0
 Pending ps n WantsPart ks = ks ≡ []
 Pending ps n (WantsVariable q) ks = (l : ℕ) × ((n ≡ suc l) × (ks ≡ sign_of q ∷ []))
 Pending ps n (HasPredicate p) ks = (is_predicate p ≡ true) × (ks ≡ Identifier p ∷ [])
-Pending ps n (WantsArgument p ts) ks = (is_predicate p ≡ true) × ((js : List Token) × (Listing ts js × (ks ≡ Identifier p ∷ Open ∷ js)))
-Pending ps n (HasArgument p ts) ks = (is_predicate p ≡ true) × ((js : List Token) × (SpellsTerms js ts × (ks ≡ Identifier p ∷ Open ∷ js)))
-Pending ps n (HasLeft a) ks = (k : Token) × (SpellsTerm k a × (ks ≡ k ∷ []))
-Pending ps n (WantsRight a r) ks = (k : Token) × (SpellsTerm k a × (ks ≡ k ∷ relation_sign r ∷ []))
+Pending ps n (WantsTerm spot cs) ks = NotFirst spot cs × ToTerm n spot cs ks
+Pending ps n (HasTerm spot cs r) ks = WithTerm n spot cs r ks
 Pending ps n (HasPart s) ks = (ps ≡ []) × SpellsPart n ks s
 
 -- the tokens so far, and what each stretch of them has come to in the state
@@ -101,7 +143,7 @@ abbrev pub Next : ℕ → Result State Refusal → List Token → Type 0
 Next top (Err refusal) ks = Unit {0}
 Next top (Ok st) ks = Built top st ks
 
-next_if : (top : ℕ) (b : Bool) (st : State) (refusal : Refusal) (ks : List Token) → (b ≡ true → Built top st ks) → Next top (if b then Ok st else Err refusal) ks
+pub next_if : (top : ℕ) (b : Bool) (st : State) (refusal : Refusal) (ks : List Token) → (b ≡ true → Built top st ks) → Next top (if b then Ok st else Err refusal) ks
 next_if top true st refusal ks f = f refl
 next_if top false st refusal ks f = tt
 
@@ -156,7 +198,7 @@ pub finished_all : (ks before chain front now : List Token) → ks ≡ before ++
 finished_all ks before chain front now e = e ∙ append_assoc (before ++ chain) front now ∙ ap (λ (xs : List Token). xs ++ (front ++ now)) (sym (append-nil (before ++ chain)))
 
 -- a part is complete, where its tokens are these
-finished_built : (top : ℕ) (m : Mode) (h : Group) (o : List Group) (ks now : List Token) (s : Sent) (b : Built top (state m h o) ks) (js : List Token) → js ≡ b.before ++ b.chain ++ b.front ++ now → SpellsPart b.left now s → Built top (finished s h o) js
+pub finished_built : (top : ℕ) (m : Mode) (h : Group) (o : List Group) (ks now : List Token) (s : Sent) (b : Built top (state m h o) ks) (js : List Token) → js ≡ b.before ++ b.chain ++ b.front ++ now → SpellsPart b.left now s → Built top (finished s h o) js
 finished_built top m h o ks now s b js e p = record {
   before = b.before;
   chain = b.chain;
@@ -184,7 +226,7 @@ letter_built top p h o ks b = finished_built top (HasPredicate p) h o ks b.now (
 
 -- prefixes and groups
 
-room_left : (r l n : ℕ) → r ≡ n + l → nat_lt l r ≡ true → n ≡ suc (n - 1)
+pub room_left : (r l n : ℕ) → r ≡ n + l → nat_lt l r ≡ true → n ≡ suc (n - 1)
 room_left r l n e t = let h : l < r = ltb-true l r t in omega arith
 
 still_left : (r l n m : ℕ) → r ≡ n + l → n ≡ suc m → r ≡ m + suc l
@@ -260,29 +302,37 @@ group_built top h o ks b e = record {
 
 -- what begins a part
 
-term_case : (w : Word) (v n : Bool) → is_variable w ≡ v → is_name w ≡ n → (t : Term) → (if v then Some (Var w) else (if n then Some (Name w) else None)) ≡ Some t → SpellsTerm (Identifier w) t
-term_case w true n i j t e = let same : Var w ≡ t = cc in subst (λ (u : Term). SpellsTerm (Identifier w) u) same (variable w i)
-term_case w false true i j t e = let same : Name w ≡ t = cc in subst (λ (u : Term). SpellsTerm (Identifier w) u) same (name w j)
-term_case w false false i j t e = cc
+word_read : (m : ℕ) {w : Word} {r : Read} → IsWord w r → IsRead m r (Identifier w ∷ [])
+word_read m (a_variable w i) = (i, refl)
+word_read m (a_name w i) = (i, refl)
 
-pub term_spelled : (w : Word) (t : Term) → term_of w ≡ Some t → SpellsTerm (Identifier w) t
-term_spelled w t e = term_case w (is_variable w) (is_name w) refl refl t e
+pub word_found : (m : ℕ) (w : Word) (r : Read) → word_of w ≡ Some r → IsRead m r (Identifier w ∷ [])
+word_found m w r e = word_read m (word_is w r e)
 
--- a mode behind a term
-pub next_term : (top : ℕ) (w : Word) (next : Term → State) (ks : List Token) → ((t : Term) → SpellsTerm (Identifier w) t → Built top (next t) ks) → (f : Option Term) → term_of w ≡ f → Next top (with_term f next) ks
-next_term top w next ks built None e = tt
-next_term top w next ks built (Some t) e = built t (term_spelled w t e)
+-- a mode behind a word of a term
+pub next_word : (top : ℕ) (w : Word) (next : Read → State) (ks : List Token) → ((r : Read) → word_of w ≡ Some r → Built top (next r) ks) → (f : Option Read) → word_of w ≡ f → Next top (with_word f next) ks
+next_word top w next ks built None e = tt
+next_word top w next ks built (Some r) e = built r e
 
 predicate_built : (top : ℕ) (w : Word) (h : Group) (o : List Group) (ks : List Token) → Built top (state WantsPart h o) ks → is_predicate w ≡ true → Built top (state (HasPredicate w) h o) (ks ++ Identifier w ∷ [])
 predicate_built top w h o ks b i = goes_on top WantsPart (HasPredicate w) h o ks (Identifier w) b (i, ap (λ (xs : List Token). xs ++ Identifier w ∷ []) b.pending)
 
-left_built : (top : ℕ) (w : Word) (h : Group) (o : List Group) (ks : List Token) → Built top (state WantsPart h o) ks → (t : Term) → SpellsTerm (Identifier w) t → Built top (state (HasLeft t) h o) (ks ++ Identifier w ∷ [])
-left_built top w h o ks b t i = goes_on top WantsPart (HasLeft t) h o ks (Identifier w) b (Identifier w, (i, ap (λ (xs : List Token). xs ++ Identifier w ∷ []) b.pending))
+left_pending : (n : ℕ) (w : Word) (r : Read) (now : List Token) → now ≡ [] → word_of w ≡ Some r → WithTerm n Left [] r (now ++ Identifier w ∷ [])
+left_pending n w r now e i = record {
+  before = [];
+  to = record { outer = []; inner = []; left = n; at = refl; calls = (refl, refl); all = refl };
+  term = Identifier w ∷ [];
+  is_read = word_found n w r i;
+  all = ap (λ (xs : List Token). xs ++ Identifier w ∷ []) e;
+}
+
+left_built : (top : ℕ) (w : Word) (h : Group) (o : List Group) (ks : List Token) → Built top (state WantsPart h o) ks → (r : Read) → word_of w ≡ Some r → Built top (state (HasTerm Left [] r) h o) (ks ++ Identifier w ∷ [])
+left_built top w h o ks b r i = goes_on top WantsPart (HasTerm Left [] r) h o ks (Identifier w) b (left_pending b.left w r b.now b.pending i)
 
 word_begins : (top : ℕ) (w : Word) (h : Group) (o : List Group) (ks : List Token) → Built top (state WantsPart h o) ks → (p : Bool) → is_predicate w ≡ p
-    → Next top (if p then Ok (state (HasPredicate w) h o) else with_term (term_of w) (λ t. state (HasLeft t) h o)) (ks ++ Identifier w ∷ [])
+    → Next top (if p then Ok (state (HasPredicate w) h o) else with_word (word_of w) (λ r. state (HasTerm Left [] r) h o)) (ks ++ Identifier w ∷ [])
 word_begins top w h o ks b true i = predicate_built top w h o ks b i
-word_begins top w h o ks b false i = next_term top w (λ t. state (HasLeft t) h o) (ks ++ Identifier w ∷ []) (left_built top w h o ks b) (term_of w) refl
+word_begins top w h o ks b false i = next_word top w (λ r. state (HasTerm Left [] r) h o) (ks ++ Identifier w ∷ []) (left_built top w h o ks b) (word_of w) refl
 
 falsum_built : (top : ℕ) (h : Group) (o : List Group) (ks : List Token) → Built top (state WantsPart h o) ks → Built top (finished Bottom h o) (ks ++ FalsumSign ∷ [])
 falsum_built top h o ks b = completes top WantsPart h o ks FalsumSign Bottom b

@@ -1,9 +1,10 @@
 -- What is spelled is read: from a state that wants a part, the machine goes over the tokens of a part to the state that
 -- has this part, whatever follows.
-use Rattle.std.proofs.Common.{◌≡◌, ℕ, suc, ◌+◌, ◌-◌, nat_lt, true, false, arith, lt-ltb, List, [], ◌∷◌, ◌++◌, length, Some, Ok, refl, ap, sym, ◌∙◌, append_assoc}
+use Rattle.std.proofs.Common.{◌≡◌, ℕ, suc, ◌+◌, ◌-◌, nat_lt, true, false, arith, lt-ltb, List, [], ◌∷◌, ◌++◌, length, Some, Result, Ok, Err, refl, ap, sym, ◌∙◌, append_assoc}
 use Rattle.std.proofs.lemmas.List.{append-nil}
 use Rattle.fol_core.specs.Word.{Word, is_predicate, is_variable}
 use Rattle.fol_core.specs.declared.sent.Term.{Term}
+use Rattle.fol_core.specs.declared.sent.Term.TheVariants.{Var, Name, App}
 use Rattle.fol_core.specs.declared.sent.Sent.{Sent}
 use Rattle.fol_core.specs.declared.sent.Sent.TheVariants.{Atom, Eq, Not, And, Or, If, Iff}
 use Rattle.fol_text.specs.declared.token.Token.{Token}
@@ -15,12 +16,19 @@ use Rattle.fol_text.specs.declared.state.Relation.{Relation}
 use Rattle.fol_text.specs.declared.state.Relation.TheVariants.{Same, Different}
 use Rattle.fol_text.specs.declared.state.Begun.{Begun}
 use Rattle.fol_text.specs.declared.state.Begun.TheVariants.{Nothing, Conjunction, Disjunction, Conditional, Biconditional}
-use Rattle.fol_text.specs.declared.state.Mode.TheVariants.{WantsPart, HasPredicate, WantsArgument, HasArgument, HasLeft, WantsRight, HasPart}
+use Rattle.fol_text.specs.declared.state.Mode.TheVariants.{WantsPart, HasPredicate, WantsTerm, HasTerm, HasPart}
+use Rattle.fol_text.specs.declared.state.Mode.{Mode}
+use Rattle.fol_text.specs.declared.state.Read.{Read}
+use Rattle.fol_text.specs.declared.state.Read.TheVariants.{Variable, Symbol, Function}
+use Rattle.fol_text.specs.declared.state.Spot.{Spot}
+use Rattle.fol_text.specs.declared.state.Spot.TheVariants.{Argument, Left, Right}
+use Rattle.fol_text.specs.declared.state.Call.{Call}
+use Rattle.fol_text.specs.declared.fault.Refusal.{Refusal}
 use Rattle.fol_text.specs.declared.state.Group.{Group}
 use Rattle.fol_text.specs.declared.state.State.{State}
-use Rattle.fol_text.specs.Grammar.{SpellsTerm, SpellsTerms, last_term, more_terms, Spells, one_part, conjunction, disjunction, conditional, biconditional, SpellsParts, last_part, more_parts, SpellsPart, letter, atom, equation, inequation, falsum, negation, universal, existential, group}
-use Rattle.fol_text.specs.Machine.{state, group_of, finished, conjoined, disjoined, whole, related, term_of, go, begin}
-use Rattle.fol_text.proofs.WordKinds.{term_found}
+use Rattle.fol_text.specs.Grammar.{SpellsTerm, variable, name, function, SpellsTerms, last_term, more_terms, Spells, one_part, conjunction, disjunction, conditional, biconditional, SpellsParts, last_part, more_parts, SpellsPart, letter, atom, equation, inequation, falsum, negation, universal, existential, group}
+use Rattle.fol_text.specs.Machine.{state, group_of, finished, conjoined, disjoined, whole, related, word_of, read_term, call_of, behind_term, after_term, ended_term, go, begin}
+use Rattle.fol_text.proofs.WordKinds.{variable_read, name_read, variable_no_predicate, name_no_predicate}
 
 abbrev wants : ℕ → List Prefix → Begun → List Group → State
 wants n ps b o = state WantsPart (group_of n ps b) o
@@ -45,46 +53,105 @@ letter_goes p h (g ∷ o) [] n = refl
 letter_goes p h o (Open ∷ ks) n = absurd n
 letter_goes p h o (k ∷ ks) n = refl
 
-left_goes_by : (w : Word) (t : Term) → is_predicate w ≡ false → term_of w ≡ Some t → (h : Group) (o : List Group) (rest : List Token) → go (state WantsPart h o) (Identifier w ∷ rest) ≡ go (state (HasLeft t) h o) rest
-left_goes_by w t i e h o rest = rw (i, e, go) refl
+-- terms
 
-left_goes : {k : Token} {t : Term} → SpellsTerm k t → (h : Group) (o : List Group) (rest : List Token) → go (state WantsPart h o) (k ∷ rest) ≡ go (state (HasLeft t) h o) rest
-left_goes {k} {t} i h o rest =
-    let f = term_found i in
-    ap (λ (j : Token). go (state WantsPart h o) (j ∷ rest)) f.is ∙ left_goes_by f.spelling t f.no_predicate f.found h o rest
+word_goes : (w : Word) (r : Read) → word_of w ≡ Some r → (spot : Spot) (cs : List Call) (h : Group) (o : List Group) (rest : List Token) → go (state (WantsTerm spot cs) h o) (Identifier w ∷ rest) ≡ go (state (HasTerm spot cs r) h o) rest
+word_goes w r e spot cs h o rest = rw (e, go) refl
 
-right_goes_by : (w : Word) (b : Term) → term_of w ≡ Some b → (a : Term) (r : Relation) (h : Group) (o : List Group) (rest : List Token) → go (state (WantsRight a r) h o) (Identifier w ∷ rest) ≡ go (finished (related a r b) h o) rest
-right_goes_by w b e a r h o rest = rw (e, go) refl
+-- before anything but a parenthesis it doesn't matter how a term was read
+plain_behind : (spot : Spot) (cs : List Call) (r : Read) (h : Group) (o : List Group) (k : Token) (ks : List Token) → NoOpen (k ∷ ks) → after_term spot cs r h o k ≡ behind_term spot cs (read_term r) h o k
+plain_behind spot cs (Symbol g) h o Open ks n = absurd n
+plain_behind spot cs (Symbol g) h o k ks n = refl
+plain_behind spot cs (Variable x) h o k ks n = refl
+plain_behind spot cs (Function t) h o k ks n = refl
 
-right_goes : {k : Token} {b : Term} → SpellsTerm k b → (a : Term) (r : Relation) (h : Group) (o : List Group) (rest : List Token) → go (state (WantsRight a r) h o) (k ∷ rest) ≡ go (finished (related a r b) h o) rest
-right_goes {k} {b} i a r h o rest =
-    let f = term_found i in
-    ap (λ (j : Token). go (state (WantsRight a r) h o) (j ∷ rest)) f.is ∙ right_goes_by f.spelling b f.found a r h o rest
+abbrev goes_on : List Token → Result State Refusal → Result Sent Refusal
+goes_on ks r = elim r as (λ x. Result Sent Refusal) [ Ok next ↦ go next ks | Err refusal ↦ Err refusal ]
 
-argument_goes_by : (w : Word) (t : Term) → term_of w ≡ Some t → (p : Word) (us : List Term) (h : Group) (o : List Group) (rest : List Token) → go (state (WantsArgument p us) h o) (Identifier w ∷ rest) ≡ go (state (HasArgument p (us ++ t ∷ [])) h o) rest
-argument_goes_by w t e p us h o rest = rw (e, go) refl
+pub as_function : (spot : Spot) (cs : List Call) (r : Read) (t : Term) (h : Group) (o : List Group) (rest : List Token) → read_term r ≡ t → NoOpen rest → go (state (HasTerm spot cs r) h o) rest ≡ go (state (HasTerm spot cs (Function t)) h o) rest
+as_function spot cs r t h [] [] e n = ap (λ (u : Term). ended_term spot cs u h) e
+as_function spot cs r t h (g ∷ o) [] e n = refl
+as_function spot cs r t h o (k ∷ ks) e n = ap (λ (x : Result State Refusal). goes_on ks x) (plain_behind spot cs r h o k ks n ∙ ap (λ (u : Term). behind_term spot cs u h o k) e)
 
-argument_goes : {k : Token} {t : Term} → SpellsTerm k t → (p : Word) (us : List Term) (h : Group) (o : List Group) (rest : List Token) → go (state (WantsArgument p us) h o) (k ∷ rest) ≡ go (state (HasArgument p (us ++ t ∷ [])) h o) rest
-argument_goes {k} {t} i p us h o rest =
-    let f = term_found i in
-    ap (λ (j : Token). go (state (WantsArgument p us) h o) (j ∷ rest)) f.is ∙ argument_goes_by f.spelling t f.found p us h o rest
+call_room : (r m c l : ℕ) → r ≡ (suc m + c) + l → nat_lt (l + c) r ≡ true
+call_room r m c l e = lt-ltb (l + c) r (omega (arith, e))
+
+call_inside : (r m c l : ℕ) → r ≡ (suc m + c) + l → r ≡ (m + suc c) + l
+call_inside r m c l e = omega (arith, e)
+
+call_opens : (g : Word) (m : ℕ) (spot : Spot) (cs : List Call) (h : Group) (o : List Group) (rest : List Token) → h.room ≡ (suc m + length cs) + length h.prefixes
+    → go (state (HasTerm spot cs (Symbol g)) h o) (Open ∷ rest) ≡ go (state (WantsTerm spot (call_of g [] ∷ cs)) h o) rest
+call_opens g m spot cs h o rest e = rw (call_room h.room m (length cs) (length h.prefixes) e, go) refl
+
+mutual
+  term_read : {m : ℕ} {ks : List Token} {t : Term} → SpellsTerm m ks t → (spot : Spot) (cs : List Call) (h : Group) (o : List Group) (rest : List Token) → h.room ≡ (m + length cs) + length h.prefixes → NoOpen rest
+      → go (state (WantsTerm spot cs) h o) (ks ++ rest) ≡ go (state (HasTerm spot cs (Function t)) h o) rest
+  term_read (variable m x i) spot cs h o rest e n = word_goes x (Variable x) (variable_read x i) spot cs h o rest ∙ as_function spot cs (Variable x) (Var x) h o rest refl n
+  term_read (name m k i) spot cs h o rest e n = word_goes k (Symbol k) (name_read k i) spot cs h o rest ∙ as_function spot cs (Symbol k) (Name k) h o rest refl n
+  term_read (function m g ks ts i q) spot cs h o rest e n =
+      word_goes g (Symbol g) (name_read g i) spot cs h o (Open ∷ ((ks ++ Close ∷ []) ++ rest))
+      ∙ call_opens g m spot cs h o ((ks ++ Close ∷ []) ++ rest) e
+      ∙ ap (λ (js : List Token). go (state (WantsTerm spot (call_of g [] ∷ cs)) h o) js) (append_assoc ks (Close ∷ []) rest)
+      ∙ args_read q spot g [] cs h o rest (call_inside h.room m (length cs) (length h.prefixes) e)
+
+  args_read : {m : ℕ} {ks : List Token} {ts : List Term} → SpellsTerms m ks ts → (spot : Spot) (g : Word) (us : List Term) (cs : List Call) (h : Group) (o : List Group) (rest : List Token) → h.room ≡ (m + suc (length cs)) + length h.prefixes
+      → go (state (WantsTerm spot (call_of g us ∷ cs)) h o) (ks ++ Close ∷ rest) ≡ go (state (HasTerm spot cs (Function (App g (us ++ ts)))) h o) rest
+  args_read (last_term m ks t q) spot g us cs h o rest e = term_read q spot (call_of g us ∷ cs) h o (Close ∷ rest) e tt
+  args_read (more_terms m ks js t ts q r) spot g us cs h o rest e =
+      ap (λ (ls : List Token). go (state (WantsTerm spot (call_of g us ∷ cs)) h o) ls) (append_assoc ks (Comma ∷ js) (Close ∷ rest))
+      ∙ term_read q spot (call_of g us ∷ cs) h o (Comma ∷ (js ++ Close ∷ rest)) e tt
+      ∙ args_read r spot g (us ++ t ∷ []) cs h o rest e
+      ∙ ap (λ (vs : List Term). go (state (HasTerm spot cs (Function (App g vs))) h o) rest) (append_assoc us (t ∷ []) ts)
+
+no_calls : (r m l : ℕ) → r ≡ m + l → r ≡ (m + 0) + l
+no_calls r m l e = omega (arith, e)
 
 -- atomic sentences
 
-terms_read : {ks : List Token} {ts : List Term} → SpellsTerms ks ts → (p : Word) (us : List Term) (h : Group) (o : List Group) (rest : List Token) → go (state (WantsArgument p us) h o) (ks ++ Close ∷ rest) ≡ go (finished (Atom p (us ++ ts)) h o) rest
-terms_read (last_term k t i) p us h o rest = argument_goes i p us h o (Close ∷ rest)
-terms_read (more_terms k t ks ts i q) p us h o rest =
-    argument_goes i p us h o (Comma ∷ (ks ++ Close ∷ rest)) ∙ terms_read q p (us ++ t ∷ []) h o rest ∙ ap (λ (vs : List Term). go (finished (Atom p vs) h o) rest) (append_assoc us (t ∷ []) ts)
+terms_read : {m : ℕ} {ks : List Token} {ts : List Term} → SpellsTerms m ks ts → (p : Word) (us : List Term) (h : Group) (o : List Group) (rest : List Token) → h.room ≡ m + length h.prefixes
+    → go (state (WantsTerm (Argument p us) []) h o) (ks ++ Close ∷ rest) ≡ go (finished (Atom p (us ++ ts)) h o) rest
+terms_read (last_term m ks t q) p us h o rest e = term_read q (Argument p us) [] h o (Close ∷ rest) (no_calls h.room m (length h.prefixes) e) tt
+terms_read (more_terms m ks js t ts q r) p us h o rest e =
+    ap (λ (ls : List Token). go (state (WantsTerm (Argument p us) []) h o) ls) (append_assoc ks (Comma ∷ js) (Close ∷ rest))
+    ∙ term_read q (Argument p us) [] h o (Comma ∷ (js ++ Close ∷ rest)) (no_calls h.room m (length h.prefixes) e) tt
+    ∙ terms_read r p (us ++ t ∷ []) h o rest e
+    ∙ ap (λ (vs : List Term). go (finished (Atom p vs) h o) rest) (append_assoc us (t ∷ []) ts)
 
-atom_read : (p : Word) (ks : List Token) (ts : List Term) → is_predicate p ≡ true → SpellsTerms ks ts → (h : Group) (o : List Group) (rest : List Token) → go (state WantsPart h o) ((Identifier p ∷ Open ∷ ks ++ Close ∷ []) ++ rest) ≡ go (finished (Atom p ts) h o) rest
-atom_read p ks ts i q h o rest =
-    predicate_goes p i h o (Open ∷ ((ks ++ Close ∷ []) ++ rest)) ∙ ap (λ (js : List Token). go (state (WantsArgument p []) h o) js) (append_assoc ks (Close ∷ []) rest) ∙ terms_read q p [] h o rest
+atom_read : (m : ℕ) (p : Word) (ks : List Token) (ts : List Term) → is_predicate p ≡ true → SpellsTerms m ks ts → (h : Group) (o : List Group) (rest : List Token) → h.room ≡ m + length h.prefixes
+    → go (state WantsPart h o) ((Identifier p ∷ Open ∷ ks ++ Close ∷ []) ++ rest) ≡ go (finished (Atom p ts) h o) rest
+atom_read m p ks ts i q h o rest e =
+    predicate_goes p i h o (Open ∷ ((ks ++ Close ∷ []) ++ rest)) ∙ ap (λ (js : List Token). go (state (WantsTerm (Argument p []) []) h o) js) (append_assoc ks (Close ∷ []) rest) ∙ terms_read q p [] h o rest e
 
-equation_read : {k j : Token} {a b : Term} → SpellsTerm k a → SpellsTerm j b → (h : Group) (o : List Group) (rest : List Token) → go (state WantsPart h o) (k ∷ Equals ∷ j ∷ rest) ≡ go (finished (Eq a b) h o) rest
-equation_read {k} {j} {a} {b} x y h o rest = left_goes x h o (Equals ∷ j ∷ rest) ∙ right_goes y a Same h o rest
+-- a term begins a part as it begins on the left of an equation
 
-inequation_read : {k j : Token} {a b : Term} → SpellsTerm k a → SpellsTerm j b → (h : Group) (o : List Group) (rest : List Token) → go (state WantsPart h o) (k ∷ Unequal ∷ j ∷ rest) ≡ go (finished (Not (Eq a b)) h o) rest
-inequation_read {k} {j} {a} {b} x y h o rest = left_goes x h o (Unequal ∷ j ∷ rest) ∙ right_goes y a Different h o rest
+first_word : (w : Word) → is_predicate w ≡ false → (h : Group) (o : List Group) (rest : List Token) → go (state WantsPart h o) (Identifier w ∷ rest) ≡ go (state (WantsTerm Left []) h o) (Identifier w ∷ rest)
+first_word w i h o rest = rw (i, go) refl
+
+left_goes : {m : ℕ} {ks : List Token} {t : Term} → SpellsTerm m ks t → (h : Group) (o : List Group) (rest : List Token) → go (state WantsPart h o) (ks ++ rest) ≡ go (state (WantsTerm Left []) h o) (ks ++ rest)
+left_goes (variable m x i) h o rest = first_word x (variable_no_predicate x i) h o rest
+left_goes (name m n i) h o rest = first_word n (name_no_predicate n i) h o rest
+left_goes (function m g ks ts i q) h o rest = first_word g (name_no_predicate g i) h o (Open ∷ ((ks ++ Close ∷ []) ++ rest))
+
+right_done : (a : Term) (r : Relation) (b : Term) (h : Group) (o : List Group) (rest : List Token) → go (state (HasTerm (Right a r) [] (Function b)) h o) rest ≡ go (finished (related a r b) h o) rest
+right_done a r b h [] [] = refl
+right_done a r b h (g ∷ o) [] = refl
+right_done a r b h o (k ∷ ks) = refl
+
+equation_read : {m : ℕ} {ks js : List Token} {a b : Term} → SpellsTerm m ks a → SpellsTerm m js b → (h : Group) (o : List Group) (rest : List Token) → h.room ≡ m + length h.prefixes → NoOpen rest
+    → go (state WantsPart h o) ((ks ++ Equals ∷ js) ++ rest) ≡ go (finished (Eq a b) h o) rest
+equation_read {m} {ks} {js} {a} {b} x y h o rest e n =
+    let room = no_calls h.room m (length h.prefixes) e in
+    ap (λ (ls : List Token). go (state WantsPart h o) ls) (append_assoc ks (Equals ∷ js) rest)
+    ∙ left_goes x h o (Equals ∷ (js ++ rest)) ∙ term_read x Left [] h o (Equals ∷ (js ++ rest)) room tt
+    ∙ term_read y (Right a Same) [] h o rest room n ∙ right_done a Same b h o rest
+
+inequation_read : {m : ℕ} {ks js : List Token} {a b : Term} → SpellsTerm m ks a → SpellsTerm m js b → (h : Group) (o : List Group) (rest : List Token) → h.room ≡ m + length h.prefixes → NoOpen rest
+    → go (state WantsPart h o) ((ks ++ Unequal ∷ js) ++ rest) ≡ go (finished (Not (Eq a b)) h o) rest
+inequation_read {m} {ks} {js} {a} {b} x y h o rest e n =
+    let room = no_calls h.room m (length h.prefixes) e in
+    ap (λ (ls : List Token). go (state WantsPart h o) ls) (append_assoc ks (Unequal ∷ js) rest)
+    ∙ left_goes x h o (Unequal ∷ (js ++ rest)) ∙ term_read x Left [] h o (Unequal ∷ (js ++ rest)) room tt
+    ∙ term_read y (Right a Different) [] h o rest room n ∙ right_done a Different b h o rest
 
 -- what takes one of the room
 
@@ -179,12 +246,12 @@ no_prefix : (n : ℕ) → n ≡ n + 0
 no_prefix n = omega arith
 
 mutual
-  part_read : {m : ℕ} {ks : List Token} {s : Sent} → SpellsPart m ks s → (r : ℕ) (ps : List Prefix) (b : Begun) (o : List Group) (rest : List Token) → r ≡ m + length ps → NoOpen rest
+  pub part_read : {m : ℕ} {ks : List Token} {s : Sent} → SpellsPart m ks s → (r : ℕ) (ps : List Prefix) (b : Begun) (o : List Group) (rest : List Token) → r ≡ m + length ps → NoOpen rest
       → go (wants r ps b o) (ks ++ rest) ≡ go (finished s (group_of r ps b) o) rest
   part_read (letter m p i) r ps b o rest e h = predicate_goes p i (group_of r ps b) o rest ∙ letter_goes p (group_of r ps b) o rest h
-  part_read (atom m p ks ts i q) r ps b o rest e h = atom_read p ks ts i q (group_of r ps b) o rest
-  part_read (equation m k j t u x y) r ps b o rest e h = equation_read x y (group_of r ps b) o rest
-  part_read (inequation m k j t u x y) r ps b o rest e h = inequation_read x y (group_of r ps b) o rest
+  part_read (atom m p ks ts i q) r ps b o rest e h = atom_read m p ks ts i q (group_of r ps b) o rest e
+  part_read (equation m ks js t u x y) r ps b o rest e h = equation_read x y (group_of r ps b) o rest e h
+  part_read (inequation m ks js t u x y) r ps b o rest e h = inequation_read x y (group_of r ps b) o rest e h
   part_read (falsum m) r ps b o rest e h = refl
   part_read (negation m ks s q) r ps b o rest e h =
       negation_goes r m ps b o (ks ++ rest) e ∙ part_read q r (Negation ∷ ps) b o rest (one_more r m (length ps) e) h

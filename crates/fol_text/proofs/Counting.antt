@@ -2,22 +2,23 @@
 use Rattle.std.proofs.Common.{◌≡◌, ℕ, suc, ◌+◌, ◌≤◌, Bool, true, false, not, List, [], ◌∷◌, ◌++◌, length, map, None, if◌then◌else◌, refl, ap, sym, ◌∙◌, subst, arith, length-append, append_assoc}
 use Rattle.std.specs.Prelude.{◌&&◌}
 use Rattle.std.specs.List.{list_all}
-use Rattle.std.proofs.lemmas.List.{append-nil, length-map}
+use Rattle.std.proofs.lemmas.List.{append-nil}
 use Rattle.fol_core.specs.Word.{Word, is_predicate}
 use Rattle.fol_core.specs.Subst.{itself}
-use Rattle.fol_core.specs.Closed.{is_bound, closed}
+use Rattle.fol_core.specs.Closed.{closed}
 use Rattle.fol_core.specs.Blocks.{has_places}
 use Rattle.fol_core.specs.declared.sent.Term.{Term}
+use Rattle.fol_core.specs.declared.sent.Term.TheVariants.{Var, Name, App}
 use Rattle.fol_core.specs.declared.sent.Sent.{Sent}
 use Rattle.fol_core.specs.declared.sent.Sent.TheVariants.{Atom, Eq, Bottom, Not, And, Or, If, Iff, All, Ex}
 use Rattle.fol_text.specs.declared.token.Token.{Token}
 use Rattle.fol_text.specs.declared.token.Token.TheVariants.{NotSign, AndSign, OrSign, IfSign, IffSign, AllSign, ExistsSign, FalsumSign, Equals, Unequal, Open, Close, Comma, Identifier}
 use Rattle.fol_text.specs.declared.token.Placed.{Placed}
 use Rattle.fol_text.specs.Tokens.{tokens_of}
-use Rattle.fol_text.specs.Grammar.{SpellsTerm, SpellsTerms, last_term, more_terms, Spells, one_part, conjunction, disjunction, conditional, biconditional, SpellsParts, last_part, more_parts, SpellsPart, letter, atom, equation, inequation, falsum, negation, universal, existential, group}
-use Rattle.fol_text.specs.Occurrences.{names_predicate, names_term, is_quantifier, predicate_places, term_places, joined, fitting, boundness, first_false}
-use Rattle.fol_text.proofs.WordKinds.{term_found, variable_no_predicate}
-use Rattle.fol_text.proofs.MarkLaws.{places_marked, closed_marked, fitting_atom, fitting_eq, fitting_bottom, fitting_not, fitting_and, fitting_or, fitting_if, fitting_iff, fitting_all, fitting_ex, bound_atom, bound_eq, bound_bottom, bound_not, bound_and, bound_or, bound_if, bound_iff, bound_all, bound_ex}
+use Rattle.fol_text.specs.Grammar.{SpellsTerm, variable, name, function, SpellsTerms, last_term, more_terms, Spells, one_part, conjunction, disjunction, conditional, biconditional, SpellsParts, last_part, more_parts, SpellsPart, letter, atom, equation, inequation, falsum, negation, universal, existential, group}
+use Rattle.fol_text.specs.Occurrences.{names_predicate, names_term, is_quantifier, predicate_places, term_places, joined, fitting, word_marks, boundness, first_false}
+use Rattle.fol_text.proofs.WordKinds.{variable_no_predicate, name_no_predicate}
+use Rattle.fol_text.proofs.MarkLaws.{places_marked, closed_marked, marks_var, marks_name, marks_app, fitting_atom, fitting_eq, fitting_bottom, fitting_not, fitting_and, fitting_or, fitting_if, fitting_iff, fitting_all, fitting_ex, bound_atom, bound_eq, bound_bottom, bound_not, bound_and, bound_or, bound_if, bound_iff, bound_all, bound_ex}
 
 -- how many of the tokens are predicates
 abbrev predicates : List Token → ℕ
@@ -49,30 +50,8 @@ predicate_counts p rest i = (rw i refl, rw i refl)
 term_counts_by : (w : Word) (rest : List Token) → is_predicate w ≡ false → (predicates (Identifier w ∷ rest) ≡ predicates rest) × (terms false (Identifier w ∷ rest) ≡ suc (terms false rest))
 term_counts_by w rest i = (rw i refl, rw i refl)
 
-term_counts : {k : Token} {t : Term} → SpellsTerm k t → (rest : List Token) → (predicates (k ∷ rest) ≡ predicates rest) × (terms false (k ∷ rest) ≡ suc (terms false rest))
-term_counts {k} {t} i rest =
-    let f = term_found i in
-    subst (λ (j : Token). (predicates (j ∷ rest) ≡ predicates rest) × (terms false (j ∷ rest) ≡ suc (terms false rest))) (sym f.is) (term_counts_by f.spelling rest f.no_predicate)
-
 variable_counts : (x : Word) (rest : List Token) → is_predicate x ≡ false → (predicates (Identifier x ∷ rest) ≡ predicates rest) × (terms true (Identifier x ∷ rest) ≡ terms false rest)
 variable_counts x rest i = (rw i refl, refl)
-
--- the terms of an atomic sentence
-record TermsCounted (ks : List Token) (ts : List Term) : Type 0 where
-  of_predicates : (rest : List Token) → predicates (ks ++ Close ∷ rest) ≡ predicates rest
-  of_terms : (rest : List Token) → terms false (ks ++ Close ∷ rest) ≡ length ts + terms false rest
-
-terms_counted : {ks : List Token} {ts : List Term} → SpellsTerms ks ts → TermsCounted ks ts
-terms_counted (last_term k t i) = record {
-  of_predicates = λ rest. (term_counts i (Close ∷ rest)).0;
-  of_terms = λ rest. (term_counts i (Close ∷ rest)).1 ∙ omega arith;
-}
-terms_counted (more_terms k t ks ts i q) =
-    let c = terms_counted q in
-    record {
-      of_predicates = λ rest. (term_counts i (Comma ∷ ks ++ Close ∷ rest)).0 ∙ c.of_predicates rest;
-      of_terms = λ rest. (term_counts i (Comma ∷ ks ++ Close ∷ rest)).1 ∙ ap suc (c.of_terms rest) ∙ omega arith;
-    }
 
 -- the tokens have as many predicates and terms as the sentence
 record Counted (ks : List Token) (s : Sent) : Type 0 where
@@ -100,6 +79,67 @@ equals_quiet = record { of_predicates = λ rest. refl; of_terms = λ rest. refl 
 unequal_quiet : Quiet Unequal
 unequal_quiet = record { of_predicates = λ rest. refl; of_terms = λ rest. refl }
 
+-- the tokens have as many words as the term
+record TermCounted (ks : List Token) (t : Term) : Type 0 where
+  of_predicates : (rest : List Token) → predicates (ks ++ rest) ≡ predicates rest
+  of_terms : (bound : List Word) (rest : List Token) → terms false (ks ++ rest) ≡ length (word_marks bound t) + terms false rest
+
+record TermsCounted (ks : List Token) (ts : List Term) : Type 0 where
+  of_predicates : (rest : List Token) → predicates (ks ++ rest) ≡ predicates rest
+  of_terms : (bound : List Word) (rest : List Token) → terms false (ks ++ rest) ≡ length (joined (map (word_marks bound) ts)) + terms false rest
+
+var_counted : (x : Word) → is_predicate x ≡ false → TermCounted (Identifier x ∷ []) (Var x)
+var_counted x i = record {
+  of_predicates = λ rest. (term_counts_by x rest i).0;
+  of_terms = λ bound rest. omega (arith, (term_counts_by x rest i).1, ap length (marks_var x bound));
+}
+
+name_counted : (n : Word) → is_predicate n ≡ false → TermCounted (Identifier n ∷ []) (Name n)
+name_counted n i = record {
+  of_predicates = λ rest. (term_counts_by n rest i).0;
+  of_terms = λ bound rest. omega (arith, (term_counts_by n rest i).1, ap length (marks_name n bound));
+}
+
+function_counted : (g : Word) (ks : List Token) (ts : List Term) → is_predicate g ≡ false → TermsCounted ks ts → TermCounted (Identifier g ∷ Open ∷ ks ++ Close ∷ []) (App g ts)
+function_counted g ks ts i c = record {
+  of_predicates = λ rest. omega (arith, (term_counts_by g (Open ∷ ((ks ++ Close ∷ []) ++ rest)) i).0, ap predicates (append_assoc ks (Close ∷ []) rest), c.of_predicates (Close ∷ rest));
+  of_terms = λ bound rest. omega (
+    arith,
+    (term_counts_by g (Open ∷ ((ks ++ Close ∷ []) ++ rest)) i).1,
+    ap (λ (js : List Token). terms false js) (append_assoc ks (Close ∷ []) rest),
+    c.of_terms bound (Close ∷ rest),
+    ap length (marks_app g ts bound),
+  );
+}
+
+terms_last : (ks : List Token) (t : Term) → TermCounted ks t → TermsCounted ks (t ∷ [])
+terms_last ks t c = record {
+  of_predicates = c.of_predicates;
+  of_terms = λ bound rest. omega (arith, c.of_terms bound rest, ap length (append-nil (word_marks bound t)));
+}
+
+terms_more : (ks js : List Token) (t : Term) (ts : List Term) → TermCounted ks t → TermsCounted js ts → TermsCounted (ks ++ Comma ∷ js) (t ∷ ts)
+terms_more ks js t ts c d = record {
+  of_predicates = λ rest. omega (arith, ap predicates (append_assoc ks (Comma ∷ js) rest), c.of_predicates (Comma ∷ (js ++ rest)), d.of_predicates rest);
+  of_terms = λ bound rest. omega (
+    arith,
+    ap (λ (ls : List Token). terms false ls) (append_assoc ks (Comma ∷ js) rest),
+    c.of_terms bound (Comma ∷ (js ++ rest)),
+    d.of_terms bound rest,
+    length-append (word_marks bound t) (joined (map (word_marks bound) ts)),
+  );
+}
+
+mutual
+  term_counted : {n : ℕ} {ks : List Token} {t : Term} → SpellsTerm n ks t → TermCounted ks t
+  term_counted (variable n x i) = var_counted x (variable_no_predicate x i)
+  term_counted (name n k i) = name_counted k (name_no_predicate k i)
+  term_counted (function n g ks ts i q) = function_counted g ks ts (name_no_predicate g i) (terms_counted q)
+
+  terms_counted : {n : ℕ} {ks : List Token} {ts : List Term} → SpellsTerms n ks ts → TermsCounted ks ts
+  terms_counted (last_term n ks t i) = terms_last ks t (term_counted i)
+  terms_counted (more_terms n ks js t ts i q) = terms_more ks js t ts (term_counted i) (terms_counted q)
+
 too_few : (n : ℕ) → suc n ≤ 0 → ⊥
 too_few n h = omega (arith, h)
 
@@ -111,21 +151,28 @@ letter_counted p i = record {
 
 atom_counted : (p : Word) (ks : List Token) (ts : List Term) → is_predicate p ≡ true → TermsCounted ks ts → Counted (Identifier p ∷ Open ∷ ks ++ Close ∷ []) (Atom p ts)
 atom_counted p ks ts i c = record {
-  of_predicates = λ rest. omega (arith, (predicate_counts p (Open ∷ ((ks ++ Close ∷ []) ++ rest)) i).0, ap predicates (append_assoc ks (Close ∷ []) rest), c.of_predicates rest, ap length (fitting_atom p ts));
+  of_predicates = λ rest. omega (arith, (predicate_counts p (Open ∷ ((ks ++ Close ∷ []) ++ rest)) i).0, ap predicates (append_assoc ks (Close ∷ []) rest), c.of_predicates (Close ∷ rest), ap length (fitting_atom p ts));
   of_terms = λ bound rest. omega (
     arith,
     (predicate_counts p (Open ∷ ((ks ++ Close ∷ []) ++ rest)) i).1,
     ap (λ (js : List Token). terms false js) (append_assoc ks (Close ∷ []) rest),
-    c.of_terms rest,
+    c.of_terms bound (Close ∷ rest),
     ap length (bound_atom p ts bound),
-    length-map ts (is_bound bound),
   );
 }
 
-equation_counted : (k j r : Token) (a b : Term) → Quiet r → SpellsTerm k a → SpellsTerm j b → Counted (k ∷ r ∷ j ∷ []) (Eq a b)
-equation_counted k j r a b h x y = record {
-  of_predicates = λ rest. omega (arith, (term_counts x (r ∷ j ∷ rest)).0, h.of_predicates (j ∷ rest), (term_counts y rest).0, ap length (fitting_eq a b));
-  of_terms = λ bound rest. omega (arith, (term_counts x (r ∷ j ∷ rest)).1, h.of_terms (j ∷ rest), (term_counts y rest).1, ap length (bound_eq a b bound));
+equation_counted : (ks js : List Token) (r : Token) (a b : Term) → Quiet r → TermCounted ks a → TermCounted js b → Counted (ks ++ r ∷ js) (Eq a b)
+equation_counted ks js r a b h x y = record {
+  of_predicates = λ rest. omega (arith, ap predicates (append_assoc ks (r ∷ js) rest), x.of_predicates (r ∷ (js ++ rest)), h.of_predicates (js ++ rest), y.of_predicates rest, ap length (fitting_eq a b));
+  of_terms = λ bound rest. omega (
+    arith,
+    ap (λ (ls : List Token). terms false ls) (append_assoc ks (r ∷ js) rest),
+    x.of_terms bound (r ∷ (js ++ rest)),
+    h.of_terms (js ++ rest),
+    y.of_terms bound rest,
+    length-append (word_marks bound a) (word_marks bound b),
+    ap length (bound_eq a b bound),
+  );
 }
 
 denied_counted : (ks : List Token) (s : Sent) → Counted ks s → Counted ks (Not s)
@@ -226,8 +273,8 @@ mutual
   part_counted : {n : ℕ} {ks : List Token} {s : Sent} → SpellsPart n ks s → Counted ks s
   part_counted (letter n p i) = letter_counted p i
   part_counted (atom n p ks ts i q) = atom_counted p ks ts i (terms_counted q)
-  part_counted (equation n k j a b x y) = equation_counted k j Equals a b equals_quiet x y
-  part_counted (inequation n k j a b x y) = denied_counted (k ∷ Unequal ∷ j ∷ []) (Eq a b) (equation_counted k j Unequal a b unequal_quiet x y)
+  part_counted (equation n ks js a b x y) = equation_counted ks js Equals a b equals_quiet (term_counted x) (term_counted y)
+  part_counted (inequation n ks js a b x y) = denied_counted (ks ++ Unequal ∷ js) (Eq a b) (equation_counted ks js Unequal a b unequal_quiet (term_counted x) (term_counted y))
   part_counted (falsum n) = falsum_counted
   part_counted (negation n ks s q) = negation_counted ks s (part_counted q)
   part_counted (universal n x ks s v q) = universal_counted x ks s (variable_no_predicate x v) (part_counted q)

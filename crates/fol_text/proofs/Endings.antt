@@ -1,7 +1,8 @@
--- What the last tokens say: those of a part end in one of four ways, and behind them the machine has a part.
-use Rattle.std.proofs.Common.{◌≡◌, ℕ, nat_lt, length, Bool, true, false, List, [], ◌∷◌, ◌++◌, Option, Some, None, Result, Ok, Err, if◌then◌else◌, refl, ap, sym, ◌∙◌, subst}
-use Rattle.fol_core.specs.Word.{Word, is_predicate, is_variable}
+-- What the last tokens say: a part is read only where a part is wanted, and behind it no connective is unexpected.
+use Rattle.std.proofs.Common.{◌≡◌, ℕ, ◌+◌, arith, append_assoc, nat_lt, length, Bool, true, false, List, [], ◌∷◌, ◌++◌, Option, Some, None, Result, Ok, Err, if◌then◌else◌, refl, ap, sym, ◌∙◌, subst}
+use Rattle.fol_core.specs.Word.{Word, is_predicate, is_variable, is_name}
 use Rattle.fol_core.specs.declared.sent.Term.{Term}
+use Rattle.fol_core.specs.declared.sent.Term.TheVariants.{Var, Name, App}
 use Rattle.fol_core.specs.declared.sent.Sent.{Sent}
 use Rattle.fol_core.specs.declared.sent.Sent.TheVariants.{Atom}
 use Rattle.fol_text.specs.declared.fault.Refusal.{Refusal}
@@ -15,182 +16,282 @@ use Rattle.fol_text.specs.declared.state.Relation.{Relation}
 use Rattle.fol_text.specs.declared.state.Begun.{Begun}
 use Rattle.fol_text.specs.declared.state.Begun.TheVariants.{Nothing, Conjunction, Disjunction}
 use Rattle.fol_text.specs.declared.state.Mode.{Mode}
-use Rattle.fol_text.specs.declared.state.Mode.TheVariants.{WantsPart, WantsVariable, HasPredicate, WantsArgument, HasArgument, HasLeft, WantsRight, HasPart}
+use Rattle.fol_text.specs.declared.state.Mode.TheVariants.{WantsPart, WantsVariable, HasPredicate, WantsTerm, HasTerm, HasPart}
+use Rattle.fol_text.specs.declared.state.Read.{Read}
+use Rattle.fol_text.specs.declared.state.Read.TheVariants.{Variable, Symbol, Function}
+use Rattle.fol_text.specs.declared.state.Spot.{Spot}
+use Rattle.fol_text.specs.declared.state.Spot.TheVariants.{Argument, Left, Right}
+use Rattle.fol_text.specs.declared.state.Call.{Call}
 use Rattle.fol_text.specs.declared.state.Group.{Group}
 use Rattle.fol_text.specs.declared.state.State.{State}
-use Rattle.fol_text.specs.Grammar.{SpellsTerm, SpellsPart, letter, atom, equation, inequation, falsum, negation, universal, existential, group}
+use Rattle.fol_text.specs.Grammar.{SpellsTerm, variable, name, function, SpellsTerms, last_term, more_terms, Spells, one_part, conjunction, disjunction, conditional, biconditional, SpellsPart, letter, atom, equation, inequation, falsum, negation, universal, existential, group}
 use Rattle.fol_text.specs.Refusals.{IsConnective, and_is, or_is, if_is, iff_is, EndsInPart, JoinsPart}
-use Rattle.fol_text.specs.Machine.{state, group_of, wrapped, finished, related, term_of, with_term, with_room, negated, open_group, close_group, conjoin, disjoin, imply, equate, joined, after_part, begin_part, take_variable, after_predicate, take_argument, after_argument, after_left, take_right, step_in, step, begin, reach}
-use Rattle.fol_text.proofs.WordKinds.{variable_no_predicate, term_found}
-use Rattle.fol_text.proofs.Finishing.{reach_by}
-use Rattle.fol_text.proofs.Built.{Built, letter_built, term_spelled}
-use Rattle.fol_text.proofs.Sound.{AtPart, at_part}
+use Rattle.fol_text.specs.Machine.{state, group_of, wrapped, finished, related, word_of, with_word, read_term, call_of, open_call, in_call, behind_term, after_term, with_room, negated, open_group, close_group, conjoin, disjoin, imply, equate, joined, after_part, begin_part, take_variable, after_predicate, take_term, after_argument, after_left, step_in, step, begin, reach, go}
+use Rattle.fol_text.proofs.WordKinds.{variable_no_predicate, name_no_predicate, name_no_variable, variable_read, name_read, word_small}
+use Rattle.fol_text.proofs.Finishing.{go_by, reach_by, reach_then, reach_built, finishes, reached}
+use Rattle.fol_text.proofs.Complete.{NoOpen, as_function, part_read}
+use Rattle.fol_text.proofs.Raising.{wide, unexpected_lifts, reach_lifts, part_much_wider}
+use Rattle.fol_text.proofs.Built.{Built, NotFirst, begin_built, letter_built}
+use Rattle.fol_text.proofs.Sound.{AtPart, at_part, at_right}
 
--- how the tokens so far end: with a part, with the sign of an equation, or otherwise
-pub data Ending : Type 0 where
-  complete : Ending
-  relating : Ending
-  other : Ending
+no_state : (refusal : Refusal) (st : State) → Err refusal ≡ Ok st → ⊥
+no_state refusal st e = cc
 
-abbrev word_ends : Ending → Word → Ending
-word_ends relating w = complete
-word_ends c w = if is_predicate w then complete else other
+no_ok : (refusal : Refusal) (s : Sent) → Err refusal ≡ Ok s → ⊥
+no_ok refusal s e = cc
 
-abbrev ending : Ending → Token → Ending
-ending c (Identifier w) = word_ends c w
-ending c Equals = relating
-ending c Unequal = relating
-ending c FalsumSign = complete
-ending c Close = complete
-ending c k = other
+true_false : (b : Bool) → b ≡ true → b ≡ false → ⊥
+true_false b e f = cc
 
-abbrev endings : Ending → List Token → Ending
-endings c [] = c
-endings c (k ∷ ks) = endings (ending c k) ks
+-- the mode is the one in which a part is wanted
+abbrev Wants : Mode → Type 0
+Wants WantsPart = Unit {0}
+Wants m = ⊥
 
-endings_append : (c : Ending) (ks js : List Token) → endings c (ks ++ js) ≡ endings (endings c ks) js
-endings_append c [] js = refl
-endings_append c (k ∷ ks) js = endings_append (ending c k) ks js
+-- one token is taken, or the machine stops at it
+abbrev onward : List Token → Result State Refusal → Result Sent Refusal
+onward ks r = elim r as (λ x. Result Sent Refusal) [ Ok next ↦ go next ks | Err refusal ↦ Err refusal ]
 
-closed_end : (c : Ending) (ks : List Token) → endings c (ks ++ Close ∷ []) ≡ complete
-closed_end c ks = endings_append c ks (Close ∷ [])
+-- behind a term no word stands
+term_stops : (spot : Spot) (cs : List Call) (r : Read) (h : Group) (o : List Group) (w : Word) → after_term spot cs r h o (Identifier w) ≡ Err Unexpected
+term_stops (Argument p ts) [] (Variable x) h o w = refl
+term_stops (Argument p ts) [] (Symbol g) h o w = refl
+term_stops (Argument p ts) [] (Function t) h o w = refl
+term_stops Left [] (Variable x) h o w = refl
+term_stops Left [] (Symbol g) h o w = refl
+term_stops Left [] (Function t) h o w = refl
+term_stops (Right a q) [] (Variable x) h o w = refl
+term_stops (Right a q) [] (Symbol g) h o w = refl
+term_stops (Right a q) [] (Function t) h o w = refl
+term_stops spot (c ∷ cs) (Variable x) h o w = refl
+term_stops spot (c ∷ cs) (Symbol g) h o w = refl
+term_stops spot (c ∷ cs) (Function t) h o w = refl
 
-predicate_ends : (c : Ending) (p : Word) → is_predicate p ≡ true → word_ends c p ≡ complete
-predicate_ends relating p i = refl
-predicate_ends complete p i = rw i refl
-predicate_ends other p i = rw i refl
+-- the signs that begin a part
+data Begins : Token → Type 0 where
+  falsum_begins : Begins FalsumSign
+  not_begins : Begins NotSign
+  all_begins : Begins AllSign
+  some_begins : Begins ExistsSign
 
-right_ends : {k : Token} {t : Term} → SpellsTerm k t → ending relating k ≡ complete
-right_ends {k} {t} i = let f = term_found i in ap (λ (j : Token). ending relating j) f.is
+spot_stops : (spot : Spot) (t : Term) (h : Group) (o : List Group) (k : Token) → Begins k → behind_term spot [] t h o k ≡ Err Unexpected
+spot_stops (Argument p ts) t h o k falsum_begins = refl
+spot_stops (Argument p ts) t h o k not_begins = refl
+spot_stops (Argument p ts) t h o k all_begins = refl
+spot_stops (Argument p ts) t h o k some_begins = refl
+spot_stops Left t h o k falsum_begins = refl
+spot_stops Left t h o k not_begins = refl
+spot_stops Left t h o k all_begins = refl
+spot_stops Left t h o k some_begins = refl
+spot_stops (Right a q) t h o k falsum_begins = refl
+spot_stops (Right a q) t h o k not_begins = refl
+spot_stops (Right a q) t h o k all_begins = refl
+spot_stops (Right a q) t h o k some_begins = refl
 
--- a part ends with a part
-part_ends : {n : ℕ} {ks : List Token} {s : Sent} → SpellsPart n ks s → (c : Ending) → endings c ks ≡ complete
-part_ends (letter n p i) c = predicate_ends c p i
-part_ends (atom n p ks ts i q) c = closed_end (ending (ending c (Identifier p)) Open) ks
-part_ends (equation n k j a b x y) c = right_ends y
-part_ends (inequation n k j a b x y) c = right_ends y
-part_ends (falsum n) c = refl
-part_ends (negation n ks s q) c = part_ends q (ending c NotSign)
-part_ends (universal n x ks s v q) c = part_ends q (ending (ending c AllSign) (Identifier x))
-part_ends (existential n x ks s v q) c = part_ends q (ending (ending c ExistsSign) (Identifier x))
-part_ends (group n ks s q) c = closed_end (ending c Open) ks
+behind_stops : (spot : Spot) (cs : List Call) (t : Term) (h : Group) (o : List Group) (k : Token) → Begins k → behind_term spot cs t h o k ≡ Err Unexpected
+behind_stops spot [] t h o k i = spot_stops spot t h o k i
+behind_stops spot (c ∷ cs) t h o k falsum_begins = refl
+behind_stops spot (c ∷ cs) t h o k not_begins = refl
+behind_stops spot (c ∷ cs) t h o k all_begins = refl
+behind_stops spot (c ∷ cs) t h o k some_begins = refl
 
-part_at_end : (ks : List Token) → EndsInPart ks → endings other ks ≡ complete
-part_at_end ks e = ap (λ (js : List Token). endings other js) e.is_all ∙ endings_append other e.before e.part ∙ part_ends e.spells (endings other e.before)
+sign_behind : (spot : Spot) (cs : List Call) (r : Read) (h : Group) (o : List Group) (k : Token) → Begins k → after_term spot cs r h o k ≡ behind_term spot cs (read_term r) h o k
+sign_behind spot cs (Variable x) h o k i = refl
+sign_behind spot cs (Function t) h o k i = refl
+sign_behind spot cs (Symbol g) h o k falsum_begins = refl
+sign_behind spot cs (Symbol g) h o k not_begins = refl
+sign_behind spot cs (Symbol g) h o k all_begins = refl
+sign_behind spot cs (Symbol g) h o k some_begins = refl
 
--- the machine's mode fits how the tokens end
-abbrev Fits : Mode → Ending → Type 0
-Fits (HasPart s) c = Unit {0}
-Fits (HasPredicate p) c = Unit {0}
-Fits (WantsRight a r) c = c ≡ relating
-Fits m c = c ≡ other
+stopped : (ks : List Token) (s : Sent) (r : Result State Refusal) → r ≡ Err Unexpected → onward ks r ≡ Ok s → ⊥
+stopped ks s r e f = no_ok Unexpected s (sym (ap (λ (x : Result State Refusal). onward ks x) e) ∙ f)
 
-abbrev NextFits : Result State Refusal → Ending → Type 0
-NextFits (Ok st) c = Fits st.mode c
-NextFits (Err refusal) c = Unit {0}
+sign_wanted : (m : Mode) (h : Group) (o : List Group) (k : Token) (rest : List Token) (s : Sent) → Begins k → go (state m h o) (k ∷ rest) ≡ Ok s → Wants m
+sign_wanted WantsPart h o k rest s i e = tt
+sign_wanted (WantsVariable q) h o k rest s falsum_begins e = no_ok Unexpected s e
+sign_wanted (WantsVariable q) h o k rest s not_begins e = no_ok Unexpected s e
+sign_wanted (WantsVariable q) h o k rest s all_begins e = no_ok Unexpected s e
+sign_wanted (WantsVariable q) h o k rest s some_begins e = no_ok Unexpected s e
+sign_wanted (HasPredicate p) h o k rest s falsum_begins e = no_ok Unexpected s e
+sign_wanted (HasPredicate p) h o k rest s not_begins e = no_ok Unexpected s e
+sign_wanted (HasPredicate p) h o k rest s all_begins e = no_ok Unexpected s e
+sign_wanted (HasPredicate p) h o k rest s some_begins e = no_ok Unexpected s e
+sign_wanted (WantsTerm spot cs) h o k rest s falsum_begins e = no_ok Unexpected s e
+sign_wanted (WantsTerm spot cs) h o k rest s not_begins e = no_ok Unexpected s e
+sign_wanted (WantsTerm spot cs) h o k rest s all_begins e = no_ok Unexpected s e
+sign_wanted (WantsTerm spot cs) h o k rest s some_begins e = no_ok Unexpected s e
+sign_wanted (HasTerm spot cs r) h o k rest s i e = stopped rest s (after_term spot cs r h o k) (sign_behind spot cs r h o k i ∙ behind_stops spot cs (read_term r) h o k i) e
+sign_wanted (HasPart p) h o k rest s falsum_begins e = no_ok Unexpected s e
+sign_wanted (HasPart p) h o k rest s not_begins e = no_ok Unexpected s e
+sign_wanted (HasPart p) h o k rest s all_begins e = no_ok Unexpected s e
+sign_wanted (HasPart p) h o k rest s some_begins e = no_ok Unexpected s e
 
-if_fits : (b : Bool) (st : State) (refusal : Refusal) (c : Ending) → (b ≡ true → Fits st.mode c) → NextFits (if b then Ok st else Err refusal) c
-if_fits true st refusal c f = f refl
-if_fits false st refusal c f = tt
+-- a predicate
 
-small_word : (c : Ending) (w : Word) → c ≡ other → is_predicate w ≡ false → word_ends c w ≡ other
-small_word other w e i = rw i refl
-small_word complete w e i = cc
-small_word relating w e i = cc
+bound_stops : (q : Quantifier) (h : Group) (o : List Group) (w : Word) (b : Bool) (st : State) (rest : List Token) (s : Sent) → is_variable w ≡ b → (is_variable w ≡ true → ⊥) → onward rest (if b then Ok st else Err Unexpected) ≡ Ok s → ⊥
+bound_stops q h o w true st rest s i n e = n i
+bound_stops q h o w false st rest s i n e = no_ok Unexpected s e
 
-word_same : (v w : Word) → Identifier v ≡ Identifier w → v ≡ w
-word_same v w e = cc
+word_stops : (spot : Spot) (cs : List Call) (h : Group) (o : List Group) (w : Word) (f : Option Read) (rest : List Token) (s : Sent) → word_of w ≡ f → is_predicate w ≡ true → onward rest (with_word f (λ r. state (HasTerm spot cs r) h o)) ≡ Ok s → ⊥
+word_stops spot cs h o w None rest s i p e = no_ok Unexpected s e
+word_stops spot cs h o w (Some r) rest s i p e = true_false (is_predicate w) p (word_small w r i)
 
-term_small : (w : Word) (t : Term) → term_of w ≡ Some t → is_predicate w ≡ false
-term_small w t e =
-    let f = term_found (term_spelled w t e) in
-    ap (λ (v : Word). is_predicate v) (word_same w f.spelling f.is) ∙ f.no_predicate
+predicate_wanted : (m : Mode) (h : Group) (o : List Group) (w : Word) (rest : List Token) (s : Sent) → is_predicate w ≡ true → go (state m h o) (Identifier w ∷ rest) ≡ Ok s → Wants m
+predicate_wanted WantsPart h o w rest s i e = tt
+predicate_wanted (WantsVariable q) h o w rest s i e =
+    bound_stops q h o w (is_variable w) (state WantsPart (group_of h.room (Quantified q w ∷ h.prefixes) h.begun) o) rest s refl (λ v. true_false (is_predicate w) i (variable_no_predicate w v)) e
+predicate_wanted (HasPredicate p) h o w rest s i e = no_ok Unexpected s e
+predicate_wanted (WantsTerm spot cs) h o w rest s i e = word_stops spot cs h o w (word_of w) rest s refl i e
+predicate_wanted (HasTerm spot cs r) h o w rest s i e = stopped rest s (after_term spot cs r h o (Identifier w)) (term_stops spot cs r h o w) e
+predicate_wanted (HasPart p) h o w rest s i e = no_ok Unexpected s e
 
-term_fits : (w : Word) (f : Option Term) (next : Term → State) (c : Ending) → term_of w ≡ f → ((t : Term) → is_predicate w ≡ false → Fits (next t).mode c) → NextFits (with_term f next) c
-term_fits w None next c e fits = tt
-term_fits w (Some t) next c e fits = fits t (term_small w t e)
+-- a term is passed where it is read at all
 
-word_fits : (w : Word) (h : Group) (o : List Group) (c : Ending) → c ≡ other → (p : Bool) → is_predicate w ≡ p → NextFits (if p then Ok (state (HasPredicate w) h o) else with_term (term_of w) (λ t. state (HasLeft t) h o)) (word_ends c w)
-word_fits w h o c e true i = tt
-word_fits w h o c e false i = term_fits w (term_of w) (λ t. state (HasLeft t) h o) (word_ends c w) refl (λ t j. small_word c w e j)
+room_passes : (b : Bool) (st : State) (rest : List Token) (s : Sent) → onward rest (if b then Ok st else Err TooDeep) ≡ Ok s → go st rest ≡ Ok s
+room_passes true st rest s e = e
+room_passes false st rest s e = absurd (no_ok TooDeep s e)
 
-room_fits : (h : Group) (st : State) (c : Ending) → Fits st.mode c → NextFits (with_room h st) c
-room_fits h st c f = if_fits (nat_lt (length h.prefixes) h.room) st TooDeep c (λ e. f)
+word_passes : (w : Word) (r : Read) → word_of w ≡ Some r → (spot : Spot) (cs : List Call) (h : Group) (o : List Group) (rest : List Token) → go (state (WantsTerm spot cs) h o) (Identifier w ∷ rest) ≡ go (state (HasTerm spot cs r) h o) rest
+word_passes w r e spot cs h o rest = rw (e, go) refl
 
-begin_fits : (h : Group) (o : List Group) (k : Token) (c : Ending) → c ≡ other → NextFits (begin_part h o k) (ending c k)
-begin_fits h o (Identifier w) c e = word_fits w h o c e (is_predicate w) refl
-begin_fits h o FalsumSign c e = tt
-begin_fits h o NotSign c e = room_fits h (negated h o) other refl
-begin_fits h o AllSign c e = room_fits h (state (WantsVariable Universal) h o) other refl
-begin_fits h o ExistsSign c e = room_fits h (state (WantsVariable Existential) h o) other refl
-begin_fits h o Open c e = room_fits h (open_group h o) other refl
-begin_fits h o k c e = tt
+mutual
+  term_passes : {m : ℕ} {ks : List Token} {t : Term} → SpellsTerm m ks t → (spot : Spot) (cs : List Call) (h : Group) (o : List Group) (rest : List Token) (s : Sent) → NoOpen rest
+      → go (state (WantsTerm spot cs) h o) (ks ++ rest) ≡ Ok s → go (state (HasTerm spot cs (Function t)) h o) rest ≡ Ok s
+  term_passes (variable m x i) spot cs h o rest s n e = sym (as_function spot cs (Variable x) (Var x) h o rest refl n) ∙ sym (word_passes x (Variable x) (variable_read x i) spot cs h o rest) ∙ e
+  term_passes (name m k i) spot cs h o rest s n e = sym (as_function spot cs (Symbol k) (Name k) h o rest refl n) ∙ sym (word_passes k (Symbol k) (name_read k i) spot cs h o rest) ∙ e
+  term_passes (function m g ks ts i q) spot cs h o rest s n e =
+      args_pass q spot g [] cs h o rest s
+      (ap (λ (js : List Token). go (state (WantsTerm spot (call_of g [] ∷ cs)) h o) js) (sym (append_assoc ks (Close ∷ []) rest))
+      ∙ room_passes (nat_lt (length h.prefixes + length cs) h.room) (state (WantsTerm spot (call_of g [] ∷ cs)) h o) ((ks ++ Close ∷ []) ++ rest) s
+      (sym (word_passes g (Symbol g) (name_read g i) spot cs h o (Open ∷ ((ks ++ Close ∷ []) ++ rest))) ∙ e))
 
-variable_fits : (q : Quantifier) (h : Group) (o : List Group) (k : Token) (c : Ending) → c ≡ other → NextFits (take_variable q h o k) (ending c k)
-variable_fits q h o (Identifier x) c e = if_fits (is_variable x) (state WantsPart (group_of h.room (Quantified q x ∷ h.prefixes) h.begun) o) Unexpected (word_ends c x) (λ i. small_word c x e (variable_no_predicate x i))
-variable_fits q h o k c e = tt
+  args_pass : {m : ℕ} {ks : List Token} {ts : List Term} → SpellsTerms m ks ts → (spot : Spot) (g : Word) (us : List Term) (cs : List Call) (h : Group) (o : List Group) (rest : List Token) (s : Sent)
+      → go (state (WantsTerm spot (call_of g us ∷ cs)) h o) (ks ++ Close ∷ rest) ≡ Ok s → go (state (HasTerm spot cs (Function (App g (us ++ ts)))) h o) rest ≡ Ok s
+  args_pass (last_term m ks t q) spot g us cs h o rest s e = term_passes q spot (call_of g us ∷ cs) h o (Close ∷ rest) s tt e
+  args_pass (more_terms m ks js t ts q r) spot g us cs h o rest s e =
+      ap (λ (vs : List Term). go (state (HasTerm spot cs (Function (App g vs))) h o) rest) (sym (append_assoc us (t ∷ []) ts))
+      ∙ args_pass r spot g (us ++ t ∷ []) cs h o rest s
+      (term_passes q spot (call_of g us ∷ cs) h o (Comma ∷ (js ++ Close ∷ rest)) s tt
+      (ap (λ (ls : List Token). go (state (WantsTerm spot (call_of g us ∷ cs)) h o) ls) (sym (append_assoc ks (Comma ∷ js) (Close ∷ rest))) ∙ e))
 
-close_fits : (s : Sent) (h : Group) (o : List Group) (c : Ending) → NextFits (close_group s h o) c
-close_fits s h [] c = tt
-close_fits s h (g ∷ o) c = tt
+-- an equation
 
-joined_fits : (h : Group) (o : List Group) (r : Result Begun Refusal) → NextFits (joined h o r) other
-joined_fits h o (Ok b) = refl
-joined_fits h o (Err refusal) = tt
+data Relates : Token → Type 0 where
+  equals_relates : Relates Equals
+  unequal_relates : Relates Unequal
 
-after_fits : (s : Sent) (h : Group) (o : List Group) (k : Token) (c : Ending) → NextFits (after_part s h o k) (ending c k)
-after_fits s h o Close c = close_fits s h o complete
-after_fits s h o AndSign c = joined_fits h o (conjoin s h.begun)
-after_fits s h o OrSign c = joined_fits h o (disjoin s h.begun)
-after_fits s h o IfSign c = joined_fits h o (imply s h.begun)
-after_fits s h o IffSign c = joined_fits h o (equate s h.begun)
-after_fits s h o k c = tt
+relates_stops : (spot : Spot) (cs : List Call) (t : Term) (h : Group) (o : List Group) (k : Token) → Relates k → NotFirst spot cs → behind_term spot cs t h o k ≡ Err Unexpected
+relates_stops (Argument p ts) [] t h o k equals_relates n = refl
+relates_stops (Argument p ts) [] t h o k unequal_relates n = refl
+relates_stops Left [] t h o k i n = absurd n
+relates_stops (Right a q) [] t h o k equals_relates n = refl
+relates_stops (Right a q) [] t h o k unequal_relates n = refl
+relates_stops spot (c ∷ cs) t h o k equals_relates n = refl
+relates_stops spot (c ∷ cs) t h o k unequal_relates n = refl
 
-predicate_fits : (p : Word) (h : Group) (o : List Group) (k : Token) (c : Ending) → NextFits (after_predicate p h o k) (ending c k)
-predicate_fits p h o Open c = refl
-predicate_fits p h o k c = after_fits (wrapped h.prefixes (Atom p [])) (group_of h.room [] h.begun) o k c
+relates_no_open : (k : Token) (rest : List Token) → Relates k → NoOpen (k ∷ rest)
+relates_no_open k rest equals_relates = tt
+relates_no_open k rest unequal_relates = tt
 
-argument_fits : (p : Word) (ts : List Term) (h : Group) (o : List Group) (k : Token) (c : Ending) → c ≡ other → NextFits (take_argument p ts h o k) (ending c k)
-argument_fits p ts h o (Identifier w) c e = term_fits w (term_of w) (λ t. state (HasArgument p (ts ++ t ∷ [])) h o) (word_ends c w) refl (λ t i. small_word c w e i)
-argument_fits p ts h o k c e = tt
+-- the mode can be reached
+abbrev IsMode : Mode → Type 0
+IsMode (WantsTerm spot cs) = NotFirst spot cs
+IsMode m = Unit {0}
 
-end_fits : (p : Word) (ts : List Term) (h : Group) (o : List Group) (k : Token) (c : Ending) → NextFits (after_argument p ts h o k) (ending c k)
-end_fits p ts h o Comma c = refl
-end_fits p ts h o Close c = tt
-end_fits p ts h o k c = tt
+in_term : {m : ℕ} {ks : List Token} {t : Term} → SpellsTerm m ks t → (spot : Spot) (cs : List Call) (h : Group) (o : List Group) (k : Token) (rest : List Token) (s : Sent) → Relates k → NotFirst spot cs → go (state (WantsTerm spot cs) h o) (ks ++ (k ∷ rest)) ≡ Ok s → ⊥
+in_term {m} {ks} {t} q spot cs h o k rest s i n e = stopped rest s (behind_term spot cs t h o k) (relates_stops spot cs t h o k i n) (term_passes q spot cs h o (k ∷ rest) s (relates_no_open k rest i) e)
 
-left_fits : (a : Term) (h : Group) (o : List Group) (k : Token) (c : Ending) → NextFits (after_left a h o k) (ending c k)
-left_fits a h o Equals c = refl
-left_fits a h o Unequal c = refl
-left_fits a h o k c = tt
+part_stops : (h : Group) (o : List Group) (k : Token) (rest : List Token) (s : Sent) → Relates k → go (state WantsPart h o) (k ∷ rest) ≡ Ok s → ⊥
+part_stops h o k rest s equals_relates e = no_ok Unexpected s e
+part_stops h o k rest s unequal_relates e = no_ok Unexpected s e
 
-right_fits : (a : Term) (r : Relation) (h : Group) (o : List Group) (k : Token) (c : Ending) → NextFits (take_right a r h o k) (ending c k)
-right_fits a r h o (Identifier w) c = term_fits w (term_of w) (λ t. finished (related a r t) h o) (word_ends c w) refl (λ t i. tt)
-right_fits a r h o k c = tt
+bound_word : (b : Bool) (st : State) (rest : List Token) (s : Sent) → onward rest (if b then Ok st else Err Unexpected) ≡ Ok s → go st rest ≡ Ok s
+bound_word true st rest s e = e
+bound_word false st rest s e = absurd (no_ok Unexpected s e)
 
-step_fits_in : (m : Mode) (h : Group) (o : List Group) (k : Token) (c : Ending) → Fits m c → NextFits (step_in m h o k) (ending c k)
-step_fits_in WantsPart h o k c f = begin_fits h o k c f
-step_fits_in (WantsVariable q) h o k c f = variable_fits q h o k c f
-step_fits_in (HasPredicate p) h o k c f = predicate_fits p h o k c
-step_fits_in (WantsArgument p ts) h o k c f = argument_fits p ts h o k c f
-step_fits_in (HasArgument p ts) h o k c f = end_fits p ts h o k c
-step_fits_in (HasLeft a) h o k c f = left_fits a h o k c
-step_fits_in (WantsRight a r) h o k c f = right_fits a r h o k c
-step_fits_in (HasPart s) h o k c f = after_fits s h o k c
+in_variable : {m : ℕ} {ks : List Token} {t : Term} → SpellsTerm m ks t → (q : Quantifier) (h : Group) (o : List Group) (k : Token) (rest : List Token) (s : Sent) → Relates k → go (state (WantsVariable q) h o) (ks ++ (k ∷ rest)) ≡ Ok s → ⊥
+in_variable (variable m x i) q h o k rest s r e = part_stops (group_of h.room (Quantified q x ∷ h.prefixes) h.begun) o k rest s r (bound_word (is_variable x) (state WantsPart (group_of h.room (Quantified q x ∷ h.prefixes) h.begun) o) (k ∷ rest) s e)
+in_variable (name m n i) q h o k rest s r e = bound_stops q h o n (is_variable n) (state WantsPart (group_of h.room (Quantified q n ∷ h.prefixes) h.begun) o) (k ∷ rest) s refl (λ v. true_false (is_variable n) v (name_no_variable n i)) e
+in_variable (function m g ks ts i d) q h o k rest s r e =
+    bound_stops q h o g (is_variable g) (state WantsPart (group_of h.room (Quantified q g ∷ h.prefixes) h.begun) o) ((Open ∷ ks ++ Close ∷ []) ++ (k ∷ rest)) s refl (λ v. true_false (is_variable g) v (name_no_variable g i)) e
 
-pub step_fits : (st next : State) (k : Token) (c : Ending) → step st k ≡ Ok next → Fits st.mode c → Fits next.mode (ending c k)
-step_fits st next k c e f = subst (λ (r : Result State Refusal). NextFits r (ending c k)) e (step_fits_in st.mode st.here st.outer k c f)
+in_has : {m : ℕ} {ks : List Token} {t : Term} → SpellsTerm m ks t → (spot : Spot) (cs : List Call) (r : Read) (h : Group) (o : List Group) (rest : List Token) (s : Sent) → go (state (HasTerm spot cs r) h o) (ks ++ rest) ≡ Ok s → ⊥
+in_has (variable m x i) spot cs r h o rest s e = stopped rest s (after_term spot cs r h o (Identifier x)) (term_stops spot cs r h o x) e
+in_has (name m n i) spot cs r h o rest s e = stopped rest s (after_term spot cs r h o (Identifier n)) (term_stops spot cs r h o n) e
+in_has (function m g ks ts i d) spot cs r h o rest s e = stopped ((Open ∷ ks ++ Close ∷ []) ++ rest) s (after_term spot cs r h o (Identifier g)) (term_stops spot cs r h o g) e
 
-no_err : (refusal : Refusal) (st : State) → Err refusal ≡ Ok st → ⊥
-no_err refusal st e = cc
+in_predicate : {m : ℕ} {ks : List Token} {t : Term} → SpellsTerm m ks t → (p : Word) (h : Group) (o : List Group) (rest : List Token) (s : Sent) → go (state (HasPredicate p) h o) (ks ++ rest) ≡ Ok s → ⊥
+in_predicate (variable m x i) p h o rest s e = no_ok Unexpected s e
+in_predicate (name m n i) p h o rest s e = no_ok Unexpected s e
+in_predicate (function m g ks ts i d) p h o rest s e = no_ok Unexpected s e
 
-reach_fits_by : (k : Token) (ks : List Token) (st st' : State) (c : Ending) (r : Result State Refusal) → ((next : State) → reach next ks ≡ Ok st' → Fits next.mode (ending c k) → Fits st'.mode (endings (ending c k) ks)) → step st k ≡ r → reach st (k ∷ ks) ≡ Ok st' → Fits st.mode c → Fits st'.mode (endings c (k ∷ ks))
-reach_fits_by k ks st st' c (Err refusal) ih d e f = absurd (no_err refusal st' (sym (reach_by st k ks (Err refusal) d) ∙ e))
-reach_fits_by k ks st st' c (Ok next) ih d e f = ih next (sym (reach_by st k ks (Ok next) d) ∙ e) (step_fits st next k c d f)
+in_part : {m : ℕ} {ks : List Token} {t : Term} → SpellsTerm m ks t → (p : Sent) (h : Group) (o : List Group) (rest : List Token) (s : Sent) → go (state (HasPart p) h o) (ks ++ rest) ≡ Ok s → ⊥
+in_part (variable m x i) p h o rest s e = no_ok Unexpected s e
+in_part (name m n i) p h o rest s e = no_ok Unexpected s e
+in_part (function m g ks ts i d) p h o rest s e = no_ok Unexpected s e
 
-reach_fits : (ks : List Token) (st st' : State) (c : Ending) → reach st ks ≡ Ok st' → Fits st.mode c → Fits st'.mode (endings c ks)
-reach_fits [] st st' c e f = let same : st ≡ st' = cc in subst (λ (x : State). Fits x.mode c) same f
-reach_fits (k ∷ ks) st st' c e f = reach_fits_by k ks st st' c (step st k) (λ next d g. reach_fits ks next st' (ending c k) d g) refl e f
+equation_wanted : {n : ℕ} {ks : List Token} {t : Term} → SpellsTerm n ks t → (m : Mode) (h : Group) (o : List Group) (k : Token) (rest : List Token) (s : Sent) → Relates k → IsMode m → go (state m h o) (ks ++ (k ∷ rest)) ≡ Ok s → Wants m
+equation_wanted q WantsPart h o k rest s i n e = tt
+equation_wanted q (WantsVariable v) h o k rest s i n e = in_variable q v h o k rest s i e
+equation_wanted q (HasPredicate p) h o k rest s i n e = in_predicate q p h o (k ∷ rest) s e
+equation_wanted q (WantsTerm spot cs) h o k rest s i n e = in_term q spot cs h o k rest s i n e
+equation_wanted q (HasTerm spot cs r) h o k rest s i n e = in_has q spot cs r h o (k ∷ rest) s e
+equation_wanted q (HasPart p) h o k rest s i n e = in_part q p h o (k ∷ rest) s e
+
+-- a group, where its sentence is read only where a part is wanted
+
+abbrev WantedBy : List Token → Type 0
+WantedBy ks = (m : Mode) (h : Group) (o : List Group) (rest : List Token) (s : Sent) → IsMode m → go (state m h o) (ks ++ rest) ≡ Ok s → Wants m
+
+not_first : (spot : Spot) (c : Call) (cs : List Call) → NotFirst spot (c ∷ cs)
+not_first Left c cs = tt
+not_first (Argument p ts) c cs = tt
+not_first (Right a r) c cs = tt
+
+spot_shut : (spot : Spot) (cs : List Call) (t : Term) (h : Group) (o : List Group) → behind_term spot cs t h o Open ≡ Err Unexpected
+spot_shut (Argument p ts) [] t h o = refl
+spot_shut Left [] t h o = refl
+spot_shut (Right a q) [] t h o = refl
+spot_shut spot (c ∷ cs) t h o = refl
+
+group_wanted : (ks : List Token) → WantedBy ks → (m : Mode) (h : Group) (o : List Group) (rest : List Token) (s : Sent) → go (state m h o) (Open ∷ (ks ++ rest)) ≡ Ok s → Wants m
+group_wanted ks ih WantsPart h o rest s e = tt
+group_wanted ks ih (WantsVariable q) h o rest s e = no_ok Unexpected s e
+group_wanted ks ih (HasPredicate p) h o rest s e = ih (WantsTerm (Argument p []) []) h o rest s tt e
+group_wanted ks ih (WantsTerm spot cs) h o rest s e = no_ok Unexpected s e
+group_wanted ks ih (HasTerm spot cs (Variable x)) h o rest s e = stopped (ks ++ rest) s (behind_term spot cs (Var x) h o Open) (spot_shut spot cs (Var x) h o) e
+group_wanted ks ih (HasTerm spot cs (Function t)) h o rest s e = stopped (ks ++ rest) s (behind_term spot cs t h o Open) (spot_shut spot cs t h o) e
+group_wanted ks ih (HasTerm spot cs (Symbol g)) h o rest s e =
+    ih (WantsTerm spot (call_of g [] ∷ cs)) h o rest s (not_first spot (call_of g []) cs) (room_passes (nat_lt (length h.prefixes + length cs) h.room) (state (WantsTerm spot (call_of g [] ∷ cs)) h o) (ks ++ rest) s e)
+group_wanted ks ih (HasPart p) h o rest s e = no_ok Unexpected s e
+
+-- a part is read only where one is wanted
+
+joined_wanted : (ks : List Token) (k : Token) (js : List Token) → WantedBy ks → WantedBy (ks ++ k ∷ js)
+joined_wanted ks k js ih m h o rest s i e = ih m h o (k ∷ (js ++ rest)) s i (ap (λ (ls : List Token). go (state m h o) ls) (sym (append_assoc ks (k ∷ js) rest)) ∙ e)
+
+related_wanted : {n : ℕ} {ks : List Token} {t : Term} → SpellsTerm n ks t → (k : Token) (js : List Token) → Relates k → WantedBy (ks ++ k ∷ js)
+related_wanted {n} {ks} {t} q k js r m h o rest s i e = equation_wanted q m h o k (js ++ rest) s r i (ap (λ (ls : List Token). go (state m h o) ls) (sym (append_assoc ks (k ∷ js) rest)) ∙ e)
+
+mutual
+  part_wanted : {n : ℕ} {ks : List Token} {p : Sent} → SpellsPart n ks p → WantedBy ks
+  part_wanted (letter n p i) m h o rest s j e = predicate_wanted m h o p rest s i e
+  part_wanted (atom n p ks ts i q) m h o rest s j e = predicate_wanted m h o p ((Open ∷ ks ++ Close ∷ []) ++ rest) s i e
+  part_wanted (equation n ks js a b x y) m h o rest s j e = related_wanted x Equals js equals_relates m h o rest s j e
+  part_wanted (inequation n ks js a b x y) m h o rest s j e = related_wanted x Unequal js unequal_relates m h o rest s j e
+  part_wanted (falsum n) m h o rest s j e = sign_wanted m h o FalsumSign rest s falsum_begins e
+  part_wanted (negation n ks p q) m h o rest s j e = sign_wanted m h o NotSign (ks ++ rest) s not_begins e
+  part_wanted (universal n x ks p v q) m h o rest s j e = sign_wanted m h o AllSign (Identifier x ∷ (ks ++ rest)) s all_begins e
+  part_wanted (existential n x ks p v q) m h o rest s j e = sign_wanted m h o ExistsSign (Identifier x ∷ (ks ++ rest)) s some_begins e
+  part_wanted (group n ks p q) m h o rest s j e =
+      group_wanted ks (sentence_wanted q) m h o (Close ∷ rest) s (ap (λ (ls : List Token). go (state m h o) (Open ∷ ls)) (sym (append_assoc ks (Close ∷ []) rest)) ∙ e)
+
+  sentence_wanted : {n : ℕ} {ks : List Token} {p : Sent} → Spells n ks p → WantedBy ks
+  sentence_wanted (one_part n ks p q) = part_wanted q
+  sentence_wanted (conjunction n ks js p ps q r) = joined_wanted ks AndSign js (part_wanted q)
+  sentence_wanted (disjunction n ks js p ps q r) = joined_wanted ks OrSign js (part_wanted q)
+  sentence_wanted (conditional n ks js p t q r) = joined_wanted ks IfSign js (part_wanted q)
+  sentence_wanted (biconditional n ks js p t q r) = joined_wanted ks IffSign js (part_wanted q)
 
 -- a connective behind a part is never unexpected
 abbrev Expected : Result State Refusal → Type 0
@@ -227,26 +328,83 @@ predicate_expected p h o k or_is = after_expected (wrapped h.prefixes (Atom p []
 predicate_expected p h o k if_is = after_expected (wrapped h.prefixes (Atom p [])) (group_of h.room [] h.begun) o IfSign if_is
 predicate_expected p h o k iff_is = after_expected (wrapped h.prefixes (Atom p [])) (group_of h.room [] h.begun) o IffSign iff_is
 
-not_both : (c : Ending) → c ≡ other → c ≡ complete → ⊥
-not_both c e f = cc
+-- a reached mode
+mode_is : (top : ℕ) (m : Mode) (h : Group) (o : List Group) (ks : List Token) → Built top (state m h o) ks → IsMode m
+mode_is top WantsPart h o ks b = tt
+mode_is top (WantsVariable q) h o ks b = tt
+mode_is top (HasPredicate p) h o ks b = tt
+mode_is top (WantsTerm spot cs) h o ks b = b.pending.0
+mode_is top (HasTerm spot cs r) h o ks b = tt
+mode_is top (HasPart s) h o ks b = tt
 
-not_relating : (c : Ending) → c ≡ relating → c ≡ complete → ⊥
-not_relating c e f = cc
+-- two ways of reading on differ where the one is unexpected, and the other isn't
+err_differ : (r : Result Sent Refusal) (s : Sent) → r ≡ Err Unexpected → r ≡ Ok s → ⊥
+err_differ r s e f = cc
 
-expected_in : (m : Mode) (h : Group) (o : List Group) (k : Token) (c : Ending) → Fits m c → c ≡ complete → IsConnective k → Expected (step_in m h o k)
-expected_in (HasPart s) h o k c f e i = after_expected s h o k i
-expected_in (HasPredicate p) h o k c f e i = predicate_expected p h o k i
-expected_in (WantsRight a r) h o k c f e i = absurd (not_relating c f e)
-expected_in WantsPart h o k c f e i = absurd (not_both c f e)
-expected_in (WantsVariable q) h o k c f e i = absurd (not_both c f e)
-expected_in (WantsArgument p ts) h o k c f e i = absurd (not_both c f e)
-expected_in (HasArgument p ts) h o k c f e i = absurd (not_both c f e)
-expected_in (HasLeft a) h o k c f e i = absurd (not_both c f e)
+refusals_differ : (r : Result Sent Refusal) (refusal : Refusal) → r ≡ Err Unexpected → r ≡ Err refusal → refusal ≡ Unexpected
+refusals_differ r refusal e f = cc
+
+-- where each continuation is unexpected, so is the token
+continues : (st : State) (k : Token) → ((js : List Token) → go st (k ∷ js) ≡ Err Unexpected) → (r : Result State Refusal) → step st k ≡ r → r ≡ Err Unexpected
+continues st k f (Err refusal) e = ap (λ (x : Refusal). Err x) (refusals_differ (go st (k ∷ [])) refusal (f []) (go_by st k [] (Err refusal) e))
+continues st k f (Ok next) e =
+    let d = finishes next.mode next.here next.outer in
+    absurd (err_differ (go st (k ∷ d.tokens)) d.sentence (f d.tokens) (go_by st k d.tokens (Ok next) e ∙ d.goes))
+
+connective_no_open : (k : Token) (js : List Token) → IsConnective k → NoOpen (k ∷ js)
+connective_no_open k js and_is = tt
+connective_no_open k js or_is = tt
+connective_no_open k js if_is = tt
+connective_no_open k js iff_is = tt
+
+unexpected_not : (r : Result State Refusal) → Expected r → r ≡ Err Unexpected → ⊥
+unexpected_not r x e = subst Expected e x
+
+-- the machine reads a part where one is wanted, and then a connective
+room_for : (r n l : ℕ) → r + (n + l) ≡ (r + n) + l
+room_for r n l = omega arith
+
+behind_part : (m : Mode) (h : Group) (o : List Group) (n : ℕ) (part : List Token) (p : Sent) (k : Token) (st : State) → Wants m → SpellsPart n part p → h.room ≡ n + length h.prefixes → IsConnective k → reach (state m h o) part ≡ Ok st → step st k ≡ Err Unexpected → ⊥
+behind_part WantsPart h o n part p k st w q e i d f =
+    unexpected_not (after_part (wrapped h.prefixes p) (group_of h.room [] h.begun) o k) (after_expected (wrapped h.prefixes p) (group_of h.room [] h.begun) o k i)
+    (continues (finished p h o) k (λ js.
+    sym (part_read q h.room h.prefixes h.begun o (k ∷ js) e (connective_no_open k js i))
+    ∙ reach_then part (k ∷ js) (state WantsPart h o) st d ∙ go_by st k js (Err Unexpected) f) (step (finished p h o) k) refl)
+behind_part (WantsVariable v) h o n part p k st w q e i d f = w
+behind_part (HasPredicate v) h o n part p k st w q e i d f = w
+behind_part (WantsTerm v cs) h o n part p k st w q e i d f = w
+behind_part (HasTerm v cs r) h o n part p k st w q e i d f = w
+behind_part (HasPart v) h o n part p k st w q e i d f = w
+
+-- the tokens before lead somewhere
+split_by : (k : Token) (ks js : List Token) (st st' : State) (r : Result State Refusal) → ((next : State) → reach next (ks ++ js) ≡ Ok st' → (mid : State) × ((reach next ks ≡ Ok mid) × (reach mid js ≡ Ok st'))) → step st k ≡ r → reach st (k ∷ (ks ++ js)) ≡ Ok st' → (mid : State) × ((reach st (k ∷ ks) ≡ Ok mid) × (reach mid js ≡ Ok st'))
+split_by k ks js st st' (Err refusal) ih e d = absurd (no_state refusal st' (sym (reach_by st k (ks ++ js) (Err refusal) e) ∙ d))
+split_by k ks js st st' (Ok next) ih e d =
+    let (mid, (f, g)) = ih next (sym (reach_by st k (ks ++ js) (Ok next) e) ∙ d) in
+    (mid, (reach_by st k ks (Ok next) e ∙ f, g))
+
+split : (ks js : List Token) (st st' : State) → reach st (ks ++ js) ≡ Ok st' → (mid : State) × ((reach st ks ≡ Ok mid) × (reach mid js ≡ Ok st'))
+split [] js st st' d = (st, (refl, d))
+split (k ∷ ks) js st st' d = split_by k ks js st st' (step st k) (λ next e. split ks js next st' e) refl d
+
+wanted_at : (top : ℕ) (before part : List Token) (n : ℕ) (p : Sent) (mid st : State) → SpellsPart n part p → reach (begin top) before ≡ Ok mid → reach mid part ≡ Ok st → Wants mid.mode
+wanted_at top before part n p mid st q e d =
+    let f = finishes st.mode st.here st.outer in
+    part_wanted q mid.mode mid.here mid.outer f.tokens f.sentence (mode_is top mid.mode mid.here mid.outer before (reached top before mid e))
+    (reach_then part f.tokens mid st d ∙ f.goes)
+
+joins_by : (top : ℕ) (before part : List Token) (n : ℕ) (p : Sent) (k : Token) (mid st : State) → SpellsPart n part p → IsConnective k → reach (begin top) before ≡ Ok mid → reach mid part ≡ Ok st → step st k ≡ Err Unexpected → ⊥
+joins_by top before part n p k mid st q i e d f =
+    let more = n + length mid.here.prefixes in
+    behind_part mid.mode (wide more mid).here (wide more mid).outer (mid.here.room + n) part p k (wide more st)
+    (wanted_at top before part n p mid st q e d) (part_much_wider mid.here.room n part p q) (room_for mid.here.room n (length mid.here.prefixes)) i
+    (reach_lifts more part mid st d) (unexpected_lifts more st k f)
 
 -- an unexpected token is no connective behind a part
 pub unexpected_joins_none : (top : ℕ) (ks : List Token) (k : Token) (st : State) → reach (begin top) ks ≡ Ok st → step st k ≡ Err Unexpected → JoinsPart ks k → ⊥
 unexpected_joins_none top ks k st e f (i, p) =
-    subst Expected f (expected_in st.mode st.here st.outer k (endings other ks) (reach_fits ks (begin top) st other e refl) (part_at_end ks p) i)
+    let (mid, (d, g)) = split p.before p.part (begin top) st (ap (λ (js : List Token). reach (begin top) js) (sym p.is_all) ∙ e) in
+    joins_by top p.before p.part p.room p.sentence k mid st p.spells i d g f
 
 -- an ambiguous token is a connective behind a part
 
@@ -262,13 +420,13 @@ judge_room : (ks : List Token) (k : Token) (b : Bool) (st : State) → Judges ks
 judge_room ks k true st = tt
 judge_room ks k false st = tt
 
-judge_term : (ks : List Token) (k : Token) (f : Option Term) (next : Term → State) → Judges ks k (with_term f next)
-judge_term ks k None next = tt
-judge_term ks k (Some t) next = tt
+judge_read : (ks : List Token) (k : Token) (f : Option Read) (next : Read → State) → Judges ks k (with_word f next)
+judge_read ks k None next = tt
+judge_read ks k (Some t) next = tt
 
-judge_word : (ks : List Token) (w : Word) (h : Group) (o : List Group) (p : Bool) → Judges ks (Identifier w) (if p then Ok (state (HasPredicate w) h o) else with_term (term_of w) (λ t. state (HasLeft t) h o))
+judge_word : (ks : List Token) (w : Word) (h : Group) (o : List Group) (p : Bool) → Judges ks (Identifier w) (if p then Ok (state (HasPredicate w) h o) else with_word (word_of w) (λ r. state (HasTerm Left [] r) h o))
 judge_word ks w h o true = tt
-judge_word ks w h o false = judge_term ks (Identifier w) (term_of w) (λ t. state (HasLeft t) h o)
+judge_word ks w h o false = judge_read ks (Identifier w) (word_of w) (λ r. state (HasTerm Left [] r) h o)
 
 judge_begin : (ks : List Token) (h : Group) (o : List Group) (k : Token) → Judges ks k (begin_part h o k)
 judge_begin ks h o (Identifier w) = judge_word ks w h o (is_predicate w)
@@ -309,9 +467,9 @@ judge_variable : (ks : List Token) (q : Quantifier) (h : Group) (o : List Group)
 judge_variable ks q h o (Identifier x) = judge_if ks (Identifier x) (is_variable x) (state WantsPart (group_of h.room (Quantified q x ∷ h.prefixes) h.begun) o)
 judge_variable ks q h o k = tt
 
-judge_argument : (ks : List Token) (p : Word) (ts : List Term) (h : Group) (o : List Group) (k : Token) → Judges ks k (take_argument p ts h o k)
-judge_argument ks p ts h o (Identifier w) = judge_term ks (Identifier w) (term_of w) (λ t. state (HasArgument p (ts ++ t ∷ [])) h o)
-judge_argument ks p ts h o k = tt
+judge_take : (ks : List Token) (spot : Spot) (cs : List Call) (h : Group) (o : List Group) (k : Token) → Judges ks k (take_term spot cs h o k)
+judge_take ks spot cs h o (Identifier w) = judge_read ks (Identifier w) (word_of w) (λ r. state (HasTerm spot cs r) h o)
+judge_take ks spot cs h o k = tt
 
 judge_end : (ks : List Token) (p : Word) (ts : List Term) (h : Group) (o : List Group) (k : Token) → Judges ks k (after_argument p ts h o k)
 judge_end ks p ts h o Comma = tt
@@ -323,18 +481,29 @@ judge_left ks a h o Equals = tt
 judge_left ks a h o Unequal = tt
 judge_left ks a h o k = tt
 
-judge_right : (ks : List Token) (a : Term) (r : Relation) (h : Group) (o : List Group) (k : Token) → Judges ks k (take_right a r h o k)
-judge_right ks a r h o (Identifier w) = judge_term ks (Identifier w) (term_of w) (λ t. finished (related a r t) h o)
-judge_right ks a r h o k = tt
+judge_call : (ks : List Token) (spot : Spot) (g : Word) (us : List Term) (cs : List Call) (t : Term) (h : Group) (o : List Group) (k : Token) → Judges ks k (in_call spot g us cs t h o k)
+judge_call ks spot g us cs t h o Comma = tt
+judge_call ks spot g us cs t h o Close = tt
+judge_call ks spot g us cs t h o k = tt
+
+judge_behind : (top : ℕ) (ks : List Token) (spot : Spot) (cs : List Call) (r : Read) (h : Group) (o : List Group) (k : Token) → Built top (state (HasTerm spot cs r) h o) ks → Judges ks k (behind_term spot cs (read_term r) h o k)
+judge_behind top ks (Argument p ts) [] r h o k b = judge_end ks p (ts ++ read_term r ∷ []) h o k
+judge_behind top ks Left [] r h o k b = judge_left ks (read_term r) h o k
+judge_behind top ks (Right a q) [] r h o k b = judge_part top ks (wrapped h.prefixes (related a q (read_term r))) (group_of h.room [] h.begun) o k (ends_in_part top (wrapped h.prefixes (related a q (read_term r))) (group_of h.room [] h.begun) o ks (at_right top a q r h o ks b))
+judge_behind top ks spot (c ∷ cs) r h o k b = judge_call ks spot c.symbol c.arguments cs (read_term r) h o k
+
+judge_term : (top : ℕ) (ks : List Token) (spot : Spot) (cs : List Call) (r : Read) (h : Group) (o : List Group) (k : Token) → Built top (state (HasTerm spot cs r) h o) ks → Judges ks k (after_term spot cs r h o k)
+judge_term top ks spot cs (Symbol g) h o Open b = judge_room ks Open (nat_lt (length h.prefixes + length cs) h.room) (state (WantsTerm spot (call_of g [] ∷ cs)) h o)
+judge_term top ks spot cs (Symbol g) h o k b = judge_behind top ks spot cs (Symbol g) h o k b
+judge_term top ks spot cs (Variable x) h o k b = judge_behind top ks spot cs (Variable x) h o k b
+judge_term top ks spot cs (Function t) h o k b = judge_behind top ks spot cs (Function t) h o k b
 
 judge_in : (top : ℕ) (m : Mode) (h : Group) (o : List Group) (ks : List Token) (k : Token) → Built top (state m h o) ks → Judges ks k (step_in m h o k)
 judge_in top WantsPart h o ks k b = judge_begin ks h o k
 judge_in top (WantsVariable q) h o ks k b = judge_variable ks q h o k
 judge_in top (HasPredicate p) h o ks k b = judge_predicate top ks p h o k (ends_in_part top (wrapped h.prefixes (Atom p [])) (group_of h.room [] h.begun) o ks (at_part top (wrapped h.prefixes (Atom p [])) (group_of h.room [] h.begun) o ks (letter_built top p h o ks b)))
-judge_in top (WantsArgument p ts) h o ks k b = judge_argument ks p ts h o k
-judge_in top (HasArgument p ts) h o ks k b = judge_end ks p ts h o k
-judge_in top (HasLeft a) h o ks k b = judge_left ks a h o k
-judge_in top (WantsRight a r) h o ks k b = judge_right ks a r h o k
+judge_in top (WantsTerm spot cs) h o ks k b = judge_take ks spot cs h o k
+judge_in top (HasTerm spot cs r) h o ks k b = judge_term top ks spot cs r h o k b
 judge_in top (HasPart s) h o ks k b = judge_part top ks s h o k (ends_in_part top s h o ks (at_part top s h o ks b))
 
 pub ambiguous_joins : (top : ℕ) (ks : List Token) (k : Token) (st : State) → Built top st ks → step st k ≡ Err Ambiguous → JoinsPart ks k

@@ -3,7 +3,7 @@ use Rattle.std.proofs.Common.{◌≡◌, ℕ, true, List, [], ◌∷◌, ◌++�
 use Rattle.std.proofs.lemmas.List.{append-nil}
 use Rattle.fol_core.specs.Word.{Word, is_variable, is_name}
 use Rattle.fol_core.specs.declared.sent.Term.{Term}
-use Rattle.fol_core.specs.declared.sent.Term.TheVariants.{Name}
+use Rattle.fol_core.specs.declared.sent.Term.TheVariants.{Name, App}
 use Rattle.fol_core.specs.declared.sent.Sent.{Sent}
 use Rattle.fol_core.specs.declared.sent.Sent.TheVariants.{Atom, Eq, Bottom}
 use Rattle.fol_text.specs.declared.fault.Refusal.{Refusal}
@@ -14,19 +14,24 @@ use Rattle.fol_text.specs.declared.state.Prefix.TheVariants.{Quantified}
 use Rattle.fol_text.specs.declared.state.Relation.{Relation}
 use Rattle.fol_text.specs.declared.state.Relation.TheVariants.{Same}
 use Rattle.fol_text.specs.declared.state.Mode.{Mode}
-use Rattle.fol_text.specs.declared.state.Mode.TheVariants.{WantsPart, WantsVariable, HasPredicate, WantsArgument, HasArgument, HasLeft, WantsRight, HasPart}
+use Rattle.fol_text.specs.declared.state.Mode.TheVariants.{WantsPart, WantsVariable, HasPredicate, WantsTerm, HasTerm, HasPart}
+use Rattle.fol_text.specs.declared.state.Read.{Read}
+use Rattle.fol_text.specs.declared.state.Read.TheVariants.{Variable, Symbol, Function}
+use Rattle.fol_text.specs.declared.state.Spot.{Spot}
+use Rattle.fol_text.specs.declared.state.Spot.TheVariants.{Argument, Left, Right}
+use Rattle.fol_text.specs.declared.state.Call.{Call}
 use Rattle.fol_text.specs.declared.state.Group.{Group}
 use Rattle.fol_text.specs.declared.state.State.{State}
 use Rattle.fol_text.specs.Grammar.{Spells}
 use Rattle.fol_text.specs.Refusals.{BeginsWithin}
-use Rattle.fol_text.specs.Machine.{state, group_of, wrapped, finished, whole, related, term_of, step, begin, reach, go}
-use Rattle.fol_text.proofs.Complete.{spelled_is_read}
+use Rattle.fol_text.specs.Machine.{state, group_of, wrapped, finished, whole, related, word_of, read_term, step, begin, reach, go}
+use Rattle.fol_text.proofs.Complete.{NoOpen, as_function, spelled_is_read}
 use Rattle.fol_text.proofs.Built.{Built, begin_built}
 use Rattle.fol_text.proofs.Sound.{step_built, ended_spells}
 
 -- reading on
 
-go_by : (st : State) (k : Token) (ks : List Token) (r : Result State Refusal) → step st k ≡ r → go st (k ∷ ks) ≡ elim r as (λ x. Result Sent Refusal) [ Ok next ↦ go next ks | Err refusal ↦ Err refusal ]
+pub go_by : (st : State) (k : Token) (ks : List Token) (r : Result State Refusal) → step st k ≡ r → go st (k ∷ ks) ≡ elim r as (λ x. Result Sent Refusal) [ Ok next ↦ go next ks | Err refusal ↦ Err refusal ]
 go_by st k ks r e = ap (λ (o : Result State Refusal). elim o as (λ x. Result Sent Refusal) [ Ok next ↦ go next ks | Err refusal ↦ Err refusal ]) e
 
 pub reach_by : (st : State) (k : Token) (ks : List Token) (r : Result State Refusal) → step st k ≡ r → reach st (k ∷ ks) ≡ elim r as (λ x. Result State Refusal) [ Ok next ↦ reach next ks | Err refusal ↦ Err refusal ]
@@ -78,10 +83,10 @@ go_sound top (k ∷ ks) js st s b e = go_sound_by top k ks js st s (step st k) (
 
 -- finishing
 
-record Finish (st : State) : Type 0 where
-  tokens : List Token
-  sentence : Sent
-  goes : go st tokens ≡ Ok sentence
+pub record Finish (st : State) : Type 0 where
+  pub tokens : List Token
+  pub sentence : Sent
+  pub goes : go st tokens ≡ Ok sentence
 
 part_finishes : (o : List Group) (s : Sent) (h : Group) → Finish (state (HasPart s) h o)
 part_finishes [] s h = record { tokens = []; sentence = whole h.begun s; goes = refl }
@@ -99,15 +104,12 @@ variable_is : is_variable the_variable ≡ true
 unfolding is_variable the_variable
 variable_is = refl
 
-name_is : term_of the_name ≡ Some (Name the_name)
+name_is : word_of the_name ≡ Some (Symbol the_name)
 unfolding is_variable is_name the_name
 name_is = refl
 
-right_goes : (a : Term) (r : Relation) (h : Group) (o : List Group) (ks : List Token) → go (state (WantsRight a r) h o) (Identifier the_name ∷ ks) ≡ go (finished (related a r (Name the_name)) h o) ks
-right_goes a r h o ks = rw (name_is, go) refl
-
-argument_goes : (p : Word) (ts : List Term) (h : Group) (o : List Group) (ks : List Token) → go (state (WantsArgument p ts) h o) (Identifier the_name ∷ Close ∷ ks) ≡ go (finished (Atom p (ts ++ Name the_name ∷ [])) h o) ks
-argument_goes p ts h o ks = rw (name_is, go) refl
+wants_goes : (spot : Spot) (cs : List Call) (h : Group) (o : List Group) (ks : List Token) → go (state (WantsTerm spot cs) h o) (Identifier the_name ∷ ks) ≡ go (state (HasTerm spot cs (Symbol the_name)) h o) ks
+wants_goes spot cs h o ks = rw (name_is, go) refl
 
 variable_goes : (q : Quantifier) (h : Group) (o : List Group) (ks : List Token) → go (state (WantsVariable q) h o) (Identifier the_variable ∷ FalsumSign ∷ ks) ≡ go (finished Bottom (group_of h.room (Quantified q the_variable ∷ h.prefixes) h.begun) o) ks
 variable_goes q h o ks = rw (variable_is, go) refl
@@ -121,22 +123,42 @@ predicate_finishes p h (g ∷ o) =
     let f = part_finishes o (wrapped g.prefixes (whole h.begun (wrapped h.prefixes (Atom p [])))) (group_of g.room [] g.begun) in
     record { tokens = Close ∷ f.tokens; sentence = f.sentence; goes = f.goes }
 
-finishes : (m : Mode) (h : Group) (o : List Group) → Finish (state m h o)
+-- behind a term its functions are closed, and its spot is completed
+record TermFinish (spot : Spot) (cs : List Call) (t : Term) (h : Group) (o : List Group) : Type 0 where
+  tokens : List Token
+  sentence : Sent
+  no_open : NoOpen tokens
+  goes : go (state (HasTerm spot cs (Function t)) h o) tokens ≡ Ok sentence
+
+as_read : (spot : Spot) (cs : List Call) (r : Read) (h : Group) (o : List Group) → TermFinish spot cs (read_term r) h o → Finish (state (HasTerm spot cs r) h o)
+as_read spot cs r h o f = record { tokens = f.tokens; sentence = f.sentence; goes = as_function spot cs r (read_term r) h o f.tokens refl f.no_open ∙ f.goes }
+
+right_finishes : (a : Term) (q : Relation) (t : Term) (h : Group) (o : List Group) → TermFinish (Right a q) [] t h o
+right_finishes a q t h [] = record { tokens = []; sentence = whole h.begun (wrapped h.prefixes (related a q t)); no_open = tt; goes = refl }
+right_finishes a q t h (g ∷ o) =
+    let f = part_finishes o (wrapped g.prefixes (whole h.begun (wrapped h.prefixes (related a q t)))) (group_of g.room [] g.begun) in
+    record { tokens = Close ∷ f.tokens; sentence = f.sentence; no_open = tt; goes = f.goes }
+
+term_finishes : (cs : List Call) (spot : Spot) (t : Term) (h : Group) (o : List Group) → TermFinish spot cs t h o
+term_finishes [] (Argument p ts) t h o = let f = done (Atom p (ts ++ t ∷ [])) h o in record { tokens = Close ∷ f.tokens; sentence = f.sentence; no_open = tt; goes = f.goes }
+term_finishes [] Left t h o =
+    let f = as_read (Right t Same) [] (Symbol the_name) h o (right_finishes t Same (Name the_name) h o) in
+    record { tokens = Equals ∷ Identifier the_name ∷ f.tokens; sentence = f.sentence; no_open = tt; goes = wants_goes (Right t Same) [] h o f.tokens ∙ f.goes }
+term_finishes [] (Right a q) t h o = right_finishes a q t h o
+term_finishes (c ∷ cs) spot t h o =
+    let f = term_finishes cs spot (App c.symbol (c.arguments ++ t ∷ [])) h o in
+    record { tokens = Close ∷ f.tokens; sentence = f.sentence; no_open = tt; goes = f.goes }
+
+pub finishes : (m : Mode) (h : Group) (o : List Group) → Finish (state m h o)
 finishes WantsPart h o = let f = done Bottom h o in record { tokens = FalsumSign ∷ f.tokens; sentence = f.sentence; goes = f.goes }
 finishes (WantsVariable q) h o =
     let f = done Bottom (group_of h.room (Quantified q the_variable ∷ h.prefixes) h.begun) o in
     record { tokens = Identifier the_variable ∷ FalsumSign ∷ f.tokens; sentence = f.sentence; goes = variable_goes q h o f.tokens ∙ f.goes }
 finishes (HasPredicate p) h o = predicate_finishes p h o
-finishes (WantsArgument p ts) h o =
-    let f = done (Atom p (ts ++ Name the_name ∷ [])) h o in
-    record { tokens = Identifier the_name ∷ Close ∷ f.tokens; sentence = f.sentence; goes = argument_goes p ts h o f.tokens ∙ f.goes }
-finishes (HasArgument p ts) h o = let f = done (Atom p ts) h o in record { tokens = Close ∷ f.tokens; sentence = f.sentence; goes = f.goes }
-finishes (HasLeft a) h o =
-    let f = done (Eq a (Name the_name)) h o in
-    record { tokens = Equals ∷ Identifier the_name ∷ f.tokens; sentence = f.sentence; goes = right_goes a Same h o f.tokens ∙ f.goes }
-finishes (WantsRight a r) h o =
-    let f = done (related a r (Name the_name)) h o in
-    record { tokens = Identifier the_name ∷ f.tokens; sentence = f.sentence; goes = right_goes a r h o f.tokens ∙ f.goes }
+finishes (WantsTerm spot cs) h o =
+    let f = as_read spot cs (Symbol the_name) h o (term_finishes cs spot (Name the_name) h o) in
+    record { tokens = Identifier the_name ∷ f.tokens; sentence = f.sentence; goes = wants_goes spot cs h o f.tokens ∙ f.goes }
+finishes (HasTerm spot cs r) h o = as_read spot cs r h o (term_finishes cs spot (read_term r) h o)
 finishes (HasPart s) h o = part_finishes o s h
 
 -- tokens that are read begin a sentence

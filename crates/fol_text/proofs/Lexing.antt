@@ -163,6 +163,9 @@ first_sound bs = word_sound bs (prefix_len goes_on bs) (rest_ends bs) (is_ident 
 pub token_sound : (bs : List ℕ) (k : Token) (rest : List ℕ) → first_token bs ≡ Some (k, rest) → IsFirst bs k rest
 token_sound bs k rest e = subst (λ (o : Option (Token × List ℕ)). Sound bs o) e (first_sound bs)
 
+pub first_sign_sound : (bs : List ℕ) (k : Token) (rest : List ℕ) → first_sign bs ≡ Some (k, rest) → IsFirst bs k rest
+first_sign_sound bs k rest e = subst (λ (o : Option (Token × List ℕ)). Sound bs o) e (sign_sound bs)
+
 none_found : (f : Token × List ℕ) → None ≡ Some f → ⊥
 none_found f e = cc
 

@@ -1,4 +1,5 @@
 mod Wholes
+pub mod Inside
 pub mod WordKinds
 mod Spelling
 mod Complete
@@ -25,3 +26,6 @@ mod BadOnce
 pub mod OneFault
 mod Answering
 mod SomeAnswer
+pub mod Wellformed
+mod Taken
+mod Whole

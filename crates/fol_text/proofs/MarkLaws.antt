@@ -5,14 +5,19 @@ use Rattle.std.specs.List.{list_all}
 use Rattle.fol_core.specs.Word.{Word}
 use Rattle.fol_core.specs.Subst.{itself}
 use Rattle.fol_core.specs.Blocks.{has_places, places_step, fits}
-use Rattle.fol_core.specs.Closed.{closed_under, closed_step, is_bound}
-use Rattle.fol_core.specs.declared.sent.Term.{Term}
+use Rattle.fol_core.specs.Closed.{closed_under, closed_step, is_bound, is_among, bound_step as bound_term_step}
+use Rattle.fol_core.specs.declared.sent.Term.{Term, roll-Term}
+use Rattle.fol_core.specs.declared.sent.Term.{the_lemmas as term_lemmas}
+use Rattle.fol_core.specs.declared.sent.Term.TheVariants.{Var, Name, App}
+use Rattle.fol_core.specs.declared.sent.Term.TheOpen.{Term-F}
+use Rattle.fol_core.specs.declared.sent.Term.TheOpen as t
+use Rattle.fol_core.specs.declared.sent.Term.TheFolds.{ind-Term, fold-roll-Term, map-Term}
 use Rattle.fol_core.specs.declared.sent.Sent.{Sent, roll-Sent, the_lemmas}
 use Rattle.fol_core.specs.declared.sent.Sent.TheVariants.{Atom, Eq, Bottom, Not, And, Or, If, Iff, All, Ex}
 use Rattle.fol_core.specs.declared.sent.Sent.TheOpen.{Sent-F}
 use Rattle.fol_core.specs.declared.sent.Sent.TheOpen as f
 use Rattle.fol_core.specs.declared.sent.Sent.TheFolds.{ind-Sent, fold-roll-Sent, map-Sent}
-use Rattle.fol_text.specs.Occurrences.{joined, fitting, fitting_step, boundness, bound_step}
+use Rattle.fol_text.specs.Occurrences.{joined, fitting, fitting_step, word_marks, word_step, boundness, bound_step}
 
 and_true : (a : Bool) → a ≡ (a && true)
 and_true true = refl
@@ -73,9 +78,33 @@ Kept = (p : Sent) × IsMarked p
 abbrev plain : Sent-F Kept → Sent-F Sent
 plain = map-Sent Kept Sent (λ e. e.0)
 
-terms_bound : (bound : List Word) (ts : List Term) → list_all (is_bound bound) ts ≡ list_all itself (map (is_bound bound) ts)
+abbrev IsTermMarked : List Word → Term → Type 0
+IsTermMarked bound u = is_bound bound u ≡ list_all itself (word_marks bound u)
+
+abbrev MarkedTerm : List Word → Type 0
+MarkedTerm bound = (u : Term) × IsTermMarked bound u
+
+abbrev bare_term : (bound : List Word) → Term-F (MarkedTerm bound) → Term-F Term
+bare_term bound = map-Term (MarkedTerm bound) Term (λ e. e.0)
+
+args_marked : (bound : List Word) (es : List (MarkedTerm bound)) → list_all itself (map (is_bound bound) (map (λ (e : MarkedTerm bound). e.0) es)) ≡ list_all itself (joined (map (word_marks bound) (map (λ (e : MarkedTerm bound). e.0) es)))
+args_marked bound [] = refl
+args_marked bound (e ∷ es) = ap₂ ◌&&◌ e.1 (args_marked bound es) ∙ sym (all_append (word_marks bound e.0) (joined (map (word_marks bound) (map (λ (d : MarkedTerm bound). d.0) es))))
+
+term_step_marked : (bound : List Word) (y : Term-F (MarkedTerm bound)) → bound_term_step bound (map-Term Term Bool (is_bound bound) (bare_term bound y)) ≡ list_all itself (word_step bound (map-Term Term (List Bool) (word_marks bound) (bare_term bound y)))
+term_step_marked bound (t.Var x) = and_true (is_among x bound)
+term_step_marked bound (t.Name n) = refl
+term_step_marked bound (t.App g es) = args_marked bound es
+
+-- A term is bound exactly where each of its words is no free variable.
+pub words_marked : (bound : List Word) (u : Term) → IsTermMarked bound u
+words_marked bound = ind-Term (IsTermMarked bound) (λ l y is.
+    subst (λ (m : Term-F Term). IsTermMarked bound (roll-Term m)) is
+    (fold-roll-Term Bool (bound_term_step bound) (bare_term bound y) ∙ term_step_marked bound y ∙ ap (λ (m : List Bool). list_all itself m) (sym (fold-roll-Term (List Bool) (word_step bound) (bare_term bound y)))))
+
+terms_bound : (bound : List Word) (ts : List Term) → list_all (is_bound bound) ts ≡ list_all itself (joined (map (word_marks bound) ts))
 terms_bound bound [] = refl
-terms_bound bound (t ∷ ts) = ap (λ b. is_bound bound t && b) (terms_bound bound ts)
+terms_bound bound (u ∷ ts) = ap₂ ◌&&◌ (words_marked bound u) (terms_bound bound ts) ∙ sym (all_append (word_marks bound u) (joined (map (word_marks bound) ts)))
 
 parts_bound : (bound : List Word) (es : List Kept) → list_all (λ g. g bound) (map closed_under (map (λ (e : Kept). e.0) es)) ≡ list_all itself (joined (map (λ m. m bound) (map boundness (map (λ (e : Kept). e.0) es))))
 parts_bound bound [] = refl
@@ -86,7 +115,7 @@ two_bound bound d e = ap₂ ◌&&◌ (d.1 bound) (e.1 bound) ∙ sym (all_append
 
 step_bound : (y : Sent-F Kept) (bound : List Word) → closed_step (map-Sent Sent (List Word → Bool) closed_under (plain y)) bound ≡ list_all itself (bound_step (map-Sent Sent (List Word → List Bool) boundness (plain y)) bound)
 step_bound (f.Atom p ts) bound = terms_bound bound ts
-step_bound (f.Eq a b) bound = ap (λ c. is_bound bound a && c) (and_true (is_bound bound b))
+step_bound (f.Eq a b) bound = ap₂ ◌&&◌ (words_marked bound a) (words_marked bound b) ∙ sym (all_append (word_marks bound a) (word_marks bound b))
 step_bound f.Bottom bound = refl
 step_bound (f.Not e) bound = e.1 bound
 step_bound (f.And es) bound = parts_bound bound es
@@ -135,10 +164,10 @@ fitting_all x s = search (rules, the_lemmas)
 pub fitting_ex : (x : Word) (s : Sent) → fitting (Ex x s) ≡ fitting s
 fitting_ex x s = search (rules, the_lemmas)
 
-pub bound_atom : (p : Word) (ts : List Term) (bound : List Word) → boundness (Atom p ts) bound ≡ map (is_bound bound) ts
+pub bound_atom : (p : Word) (ts : List Term) (bound : List Word) → boundness (Atom p ts) bound ≡ joined (map (word_marks bound) ts)
 bound_atom p ts bound = search (rules, the_lemmas)
 
-pub bound_eq : (a b : Term) (bound : List Word) → boundness (Eq a b) bound ≡ is_bound bound a ∷ is_bound bound b ∷ []
+pub bound_eq : (a b : Term) (bound : List Word) → boundness (Eq a b) bound ≡ word_marks bound a ++ word_marks bound b
 bound_eq a b bound = search (rules, the_lemmas)
 
 pub bound_bottom : (bound : List Word) → boundness Bottom bound ≡ []
@@ -173,3 +202,14 @@ bound_all x s bound = search (rules, the_lemmas)
 
 pub bound_ex : (x : Word) (s : Sent) (bound : List Word) → boundness (Ex x s) bound ≡ boundness s (x ∷ bound)
 bound_ex x s bound = search (rules, the_lemmas)
+
+-- the marks of each form of term
+
+pub marks_var : (x : Word) (bound : List Word) → word_marks bound (Var x) ≡ is_among x bound ∷ []
+marks_var x bound = search (rules, term_lemmas)
+
+pub marks_name : (n : Word) (bound : List Word) → word_marks bound (Name n) ≡ true ∷ []
+marks_name n bound = search (rules, term_lemmas)
+
+pub marks_app : (g : Word) (ts : List Term) (bound : List Word) → word_marks bound (App g ts) ≡ true ∷ joined (map (word_marks bound) ts)
+marks_app g ts bound = search (rules, term_lemmas)

@@ -3,10 +3,13 @@ use Rattle.std.proofs.Common.{◌≡◌, ℕ, suc, ◌+◌, ◌<◌, ◌==◌, B
 use Rattle.std.proofs.lemmas.List.{append-nil, length-map, length-take-le}
 use Rattle.std.proofs.lemmas.Bool.Decides.{nat_tests}
 use Rattle.fol_core.specs.Word.{Word}
+use Rattle.fol_core.specs.declared.sent.Term.{Term}
+use Rattle.fol_core.specs.declared.sent.Term.{the_lemmas as term_lemmas}
+use Rattle.fol_core.specs.declared.sent.Term.TheVariants.{Var, Name, App}
 use Rattle.fol_core.specs.declared.sent.Sent.{Sent, the_lemmas}
 use Rattle.fol_core.specs.declared.sent.Sent.TheVariants.{And, Or, If, Iff, All, Ex}
 use Rattle.fol_core.proofs.Parts.{map_more}
-use Rattle.fol_text.specs.Printed.{Texts, shown, separated, plain, with_connective, text_in, opening, closing}
+use Rattle.fol_text.specs.Printed.{Texts, shown, separated, term_text, in_parentheses, plain, with_connective, text_in, opening, closing}
 
 -- one equation a form
 
@@ -35,6 +38,28 @@ shown_all x s = search (rules, the_lemmas)
 
 shown_ex : (x : Word) (s : Sent) → shown (Ex x s) ≡ plain (47 ∷ x ++ 32 ∷ (shown s).part)
 shown_ex x s = search (rules, the_lemmas)
+
+-- terms
+
+pub text_var : (x : Word) → term_text (Var x) ≡ x
+text_var x = search (rules, term_lemmas)
+
+pub text_name : (n : Word) → term_text (Name n) ≡ n
+text_name n = search (rules, term_lemmas)
+
+pub text_app : (g : Word) (ts : List Term) → term_text (App g ts) ≡ g ++ in_parentheses (separated (44 ∷ []) (map term_text ts))
+text_app g ts = search (rules, term_lemmas)
+
+-- a symbol, and its arguments in parentheses
+pub app_put : (old one two three four g : List ℕ) (t : Term) (ts us : List Term) → t ≡ App g ts → us ≡ ts → one ≡ old ++ g → two ≡ one ++ 40 ∷ [] → three ≡ two ++ separated (44 ∷ []) (map term_text us) → four ≡ three ++ 41 ∷ [] → four ≡ old ++ term_text t
+app_put old one two three four g t ts us e f a b c d =
+    d ∙ ap (λ (m : List ℕ). m ++ 41 ∷ []) (c ∙ ap (λ (m : List ℕ). m ++ separated (44 ∷ []) (map term_text us)) (b ∙ ap (λ (m : List ℕ). m ++ 40 ∷ []) a))
+    ∙ app_joined old g (separated (44 ∷ []) (map term_text us))
+    ∙ ap (λ (vs : List Term). old ++ (g ++ in_parentheses (separated (44 ∷ []) (map term_text vs)))) f
+    ∙ ap (λ (m : List ℕ). old ++ m) (sym (text_app g ts)) ∙ ap (λ (u : Term). old ++ term_text u) (sym e)
+  where
+    app_joined : (old g t : List ℕ) → (((old ++ g) ++ 40 ∷ []) ++ t) ++ 41 ∷ [] ≡ old ++ (g ++ in_parentheses t)
+    app_joined old g t = simp append_assoc
 
 -- a text in its parentheses, where it has some
 

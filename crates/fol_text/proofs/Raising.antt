@@ -15,12 +15,17 @@ use Rattle.fol_text.specs.declared.state.Relation.{Relation}
 use Rattle.fol_text.specs.declared.state.Begun.{Begun}
 use Rattle.fol_text.specs.declared.state.Begun.TheVariants.{Nothing, Conjunction, Disjunction}
 use Rattle.fol_text.specs.declared.state.Mode.{Mode}
-use Rattle.fol_text.specs.declared.state.Mode.TheVariants.{WantsPart, WantsVariable, HasPredicate, WantsArgument, HasArgument, HasLeft, WantsRight, HasPart}
+use Rattle.fol_text.specs.declared.state.Mode.TheVariants.{WantsPart, WantsVariable, HasPredicate, WantsTerm, HasTerm, HasPart}
+use Rattle.fol_text.specs.declared.state.Read.{Read}
+use Rattle.fol_text.specs.declared.state.Read.TheVariants.{Variable, Symbol, Function}
+use Rattle.fol_text.specs.declared.state.Spot.{Spot}
+use Rattle.fol_text.specs.declared.state.Spot.TheVariants.{Argument, Left, Right}
+use Rattle.fol_text.specs.declared.state.Call.{Call}
 use Rattle.fol_text.specs.declared.state.Group.{Group}
 use Rattle.fol_text.specs.declared.state.State.{State}
-use Rattle.fol_text.specs.Grammar.{Spells}
-use Rattle.fol_text.specs.Machine.{state, group_of, wrapped, finished, related, term_of, with_term, with_room, negated, open_group, close_group, begun_by, joined, after_part, begin_part, take_variable, after_predicate, take_argument, after_argument, after_left, take_right, step_in, step, reach}
-use Rattle.fol_text.proofs.Spelling.{wider}
+use Rattle.fol_text.specs.Grammar.{Spells, SpellsPart}
+use Rattle.fol_text.specs.Machine.{state, group_of, wrapped, finished, related, word_of, with_word, read_term, open_call, call_of, in_call, at_spot, behind_term, after_term, after_right, with_room, negated, open_group, close_group, begun_by, joined, after_part, begin_part, take_variable, after_predicate, take_term, after_argument, after_left, step_in, step, reach}
+use Rattle.fol_text.proofs.Spelling.{wider, part_wider}
 use Rattle.fol_text.proofs.Finishing.{reach_by}
 
 -- the group with so much more room
@@ -43,9 +48,9 @@ lifts_if : (d l : ℕ) (b : Bool) (st : State) → Lifts d l (if b then Ok st el
 lifts_if d l true st = refl
 lifts_if d l false st = refl
 
-lifts_term : (d l : ℕ) (f : Option Term) (next next' : Term → State) → ((t : Term) → next' t ≡ wide d (next t)) → Lifts d l (with_term f next) (with_term f next')
-lifts_term d l None next next' e = refl
-lifts_term d l (Some t) next next' e = ap (λ (st : State). Ok st) (e t)
+lifts_word : (d l : ℕ) (f : Option Read) (next next' : Read → State) → ((t : Read) → next' t ≡ wide d (next t)) → Lifts d l (with_word f next) (with_word f next')
+lifts_word d l None next next' e = refl
+lifts_word d l (Some t) next next' e = ap (λ (st : State). Ok st) (e t)
 
 still_room : (d l n : ℕ) → nat_lt l n ≡ true → nat_lt l (n + d) ≡ true
 still_room d l n e = let h : l < n = ltb-true l n e in lt-ltb l (n + d) (omega arith)
@@ -68,10 +73,10 @@ lifts_room : (d : ℕ) (h : Group) (st st' : State) → (nat_lt (length h.prefix
 lifts_room d h st st' same = lifts_room_by d (length h.prefixes) h.room st st' (nat_lt (length h.prefixes) h.room) refl same
 
 word_lifts : (d : ℕ) (w : Word) (h : Group) (o : List Group) (p : Bool) → Lifts d (length h.prefixes)
-    (if p then Ok (state (HasPredicate w) h o) else with_term (term_of w) (λ t. state (HasLeft t) h o))
-    (if p then Ok (state (HasPredicate w) (wide_group d h) (map (wide_group d) o)) else with_term (term_of w) (λ t. state (HasLeft t) (wide_group d h) (map (wide_group d) o)))
+    (if p then Ok (state (HasPredicate w) h o) else with_word (word_of w) (λ r. state (HasTerm Left [] r) h o))
+    (if p then Ok (state (HasPredicate w) (wide_group d h) (map (wide_group d) o)) else with_word (word_of w) (λ r. state (HasTerm Left [] r) (wide_group d h) (map (wide_group d) o)))
 word_lifts d w h o true = refl
-word_lifts d w h o false = lifts_term d (length h.prefixes) (term_of w) (λ t. state (HasLeft t) h o) (λ t. state (HasLeft t) (wide_group d h) (map (wide_group d) o)) (λ t. refl)
+word_lifts d w h o false = lifts_word d (length h.prefixes) (word_of w) (λ r. state (HasTerm Left [] r) h o) (λ r. state (HasTerm Left [] r) (wide_group d h) (map (wide_group d) o)) (λ r. refl)
 
 begin_lifts : (d : ℕ) (h : Group) (o : List Group) (k : Token) → Lifts d (length h.prefixes) (begin_part h o k) (begin_part (wide_group d h) (map (wide_group d) o) k)
 begin_lifts d h o (Identifier w) = word_lifts d w h o (is_predicate w)
@@ -124,36 +129,68 @@ predicate_lifts : (d : ℕ) (p : Word) (h : Group) (o : List Group) (k : Token) 
 predicate_lifts d p h o Open = refl
 predicate_lifts d p h o k = part_lifts d (length h.prefixes) (wrapped h.prefixes (Atom p [])) (group_of h.room [] h.begun) o k
 
-argument_lifts : (d : ℕ) (p : Word) (ts : List Term) (h : Group) (o : List Group) (k : Token) → Lifts d (length h.prefixes) (take_argument p ts h o k) (take_argument p ts (wide_group d h) (map (wide_group d) o) k)
-argument_lifts d p ts h o (Identifier w) = lifts_term d (length h.prefixes) (term_of w) (λ t. state (HasArgument p (ts ++ t ∷ [])) h o) (λ t. state (HasArgument p (ts ++ t ∷ [])) (wide_group d h) (map (wide_group d) o)) (λ t. refl)
-argument_lifts d p ts h o k = refl
+take_lifts : (d l : ℕ) (spot : Spot) (cs : List Call) (h : Group) (o : List Group) (k : Token) → Lifts d l (take_term spot cs h o k) (take_term spot cs (wide_group d h) (map (wide_group d) o) k)
+take_lifts d l spot cs h o (Identifier w) = lifts_word d l (word_of w) (λ r. state (HasTerm spot cs r) h o) (λ r. state (HasTerm spot cs r) (wide_group d h) (map (wide_group d) o)) (λ r. refl)
+take_lifts d l spot cs h o k = refl
 
-end_lifts : (d : ℕ) (p : Word) (ts : List Term) (h : Group) (o : List Group) (k : Token) → Lifts d (length h.prefixes) (after_argument p ts h o k) (after_argument p ts (wide_group d h) (map (wide_group d) o) k)
-end_lifts d p ts h o Comma = refl
-end_lifts d p ts h o Close = refl
-end_lifts d p ts h o k = refl
+end_lifts : (d l : ℕ) (p : Word) (ts : List Term) (h : Group) (o : List Group) (k : Token) → Lifts d l (after_argument p ts h o k) (after_argument p ts (wide_group d h) (map (wide_group d) o) k)
+end_lifts d l p ts h o Comma = refl
+end_lifts d l p ts h o Close = refl
+end_lifts d l p ts h o k = refl
 
-left_lifts : (d : ℕ) (a : Term) (h : Group) (o : List Group) (k : Token) → Lifts d (length h.prefixes) (after_left a h o k) (after_left a (wide_group d h) (map (wide_group d) o) k)
-left_lifts d a h o Equals = refl
-left_lifts d a h o Unequal = refl
-left_lifts d a h o k = refl
+left_lifts : (d l : ℕ) (a : Term) (h : Group) (o : List Group) (k : Token) → Lifts d l (after_left a h o k) (after_left a (wide_group d h) (map (wide_group d) o) k)
+left_lifts d l a h o Equals = refl
+left_lifts d l a h o Unequal = refl
+left_lifts d l a h o k = refl
 
-right_lifts : (d : ℕ) (a : Term) (r : Relation) (h : Group) (o : List Group) (k : Token) → Lifts d (length h.prefixes) (take_right a r h o k) (take_right a r (wide_group d h) (map (wide_group d) o) k)
-right_lifts d a r h o (Identifier w) = lifts_term d (length h.prefixes) (term_of w) (λ t. finished (related a r t) h o) (λ t. finished (related a r t) (wide_group d h) (map (wide_group d) o)) (λ t. refl)
-right_lifts d a r h o k = refl
+call_lifts : (d l : ℕ) (spot : Spot) (g : Word) (us : List Term) (cs : List Call) (t : Term) (h : Group) (o : List Group) (k : Token) → Lifts d l (in_call spot g us cs t h o k) (in_call spot g us cs t (wide_group d h) (map (wide_group d) o) k)
+call_lifts d l spot g us cs t h o Comma = refl
+call_lifts d l spot g us cs t h o Close = refl
+call_lifts d l spot g us cs t h o k = refl
 
-step_lifts_in : (d : ℕ) (m : Mode) (h : Group) (o : List Group) (k : Token) → Lifts d (length h.prefixes) (step_in m h o k) (step_in m (wide_group d h) (map (wide_group d) o) k)
-step_lifts_in d WantsPart h o k = begin_lifts d h o k
-step_lifts_in d (WantsVariable q) h o k = variable_lifts d q h o k
-step_lifts_in d (HasPredicate p) h o k = predicate_lifts d p h o k
-step_lifts_in d (WantsArgument p ts) h o k = argument_lifts d p ts h o k
-step_lifts_in d (HasArgument p ts) h o k = end_lifts d p ts h o k
-step_lifts_in d (HasLeft a) h o k = left_lifts d a h o k
-step_lifts_in d (WantsRight a r) h o k = right_lifts d a r h o k
-step_lifts_in d (HasPart s) h o k = part_lifts d (length h.prefixes) s h o k
+behind_lifts : (d l : ℕ) (spot : Spot) (cs : List Call) (t : Term) (h : Group) (o : List Group) (k : Token) → Lifts d l (behind_term spot cs t h o k) (behind_term spot cs t (wide_group d h) (map (wide_group d) o) k)
+behind_lifts d l (Argument p ts) [] t h o k = end_lifts d l p (ts ++ t ∷ []) h o k
+behind_lifts d l Left [] t h o k = left_lifts d l t h o k
+behind_lifts d l (Right a r) [] t h o k = part_lifts d l (wrapped h.prefixes (related a r t)) (group_of h.room [] h.begun) o k
+behind_lifts d l spot (c ∷ cs) t h o k = call_lifts d l spot c.symbol c.arguments cs t h o k
 
-step_lifts : (d : ℕ) (st : State) (k : Token) (r : Result State Refusal) → step st k ≡ r → Lifts d (length st.here.prefixes) r (step (wide d st) k)
-step_lifts d st k r e = subst (λ (x : Result State Refusal). Lifts d (length st.here.prefixes) x (step (wide d st) k)) e (step_lifts_in d st.mode st.here st.outer k)
+term_lifts : (d : ℕ) (spot : Spot) (cs : List Call) (r : Read) (h : Group) (o : List Group) (k : Token) → Lifts d (length h.prefixes + length cs) (after_term spot cs r h o k) (after_term spot cs r (wide_group d h) (map (wide_group d) o) k)
+term_lifts d spot cs (Symbol g) h o Open =
+    lifts_room_by d (length h.prefixes + length cs) h.room (state (WantsTerm spot (call_of g [] ∷ cs)) h o) (state (WantsTerm spot (call_of g [] ∷ cs)) (wide_group d h) (map (wide_group d) o)) (nat_lt (length h.prefixes + length cs) h.room) refl (λ e. refl)
+term_lifts d spot cs (Symbol g) h o k = behind_lifts d (length h.prefixes + length cs) spot cs (read_term (Symbol g)) h o k
+term_lifts d spot cs (Variable x) h o k = behind_lifts d (length h.prefixes + length cs) spot cs (read_term (Variable x)) h o k
+term_lifts d spot cs (Function t) h o k = behind_lifts d (length h.prefixes + length cs) spot cs t h o k
+
+-- how many functions a mode is in
+abbrev calls_of : Mode → ℕ
+calls_of (HasTerm spot cs r) = length cs
+calls_of m = 0
+
+-- how many are pending in the innermost group
+abbrev pub pending : State → ℕ
+pending st = length st.here.prefixes + calls_of st.mode
+
+less : (l m d : ℕ) → l + m < d → l < d
+less l m d e = omega (arith, e)
+
+-- what is taken where fewer are pending
+lifts_more : (d l m : ℕ) (a b : Result State Refusal) → Lifts d l a b → Lifts d (l + m) a b
+lifts_more d l m (Ok next) b f = f
+lifts_more d l m (Err TooDeep) b f = λ e. f (less l m d e)
+lifts_more d l m (Err Ambiguous) b f = f
+lifts_more d l m (Err Unexpected) b f = f
+lifts_more d l m (Err Memory) b f = f
+
+step_lifts_in : (d : ℕ) (m : Mode) (h : Group) (o : List Group) (k : Token) → Lifts d (length h.prefixes + calls_of m) (step_in m h o k) (step_in m (wide_group d h) (map (wide_group d) o) k)
+step_lifts_in d WantsPart h o k = lifts_more d (length h.prefixes) 0 _ _ (begin_lifts d h o k)
+step_lifts_in d (WantsVariable q) h o k = lifts_more d (length h.prefixes) 0 _ _ (variable_lifts d q h o k)
+step_lifts_in d (HasPredicate p) h o k = lifts_more d (length h.prefixes) 0 _ _ (predicate_lifts d p h o k)
+step_lifts_in d (WantsTerm spot cs) h o k = take_lifts d (length h.prefixes + 0) spot cs h o k
+step_lifts_in d (HasTerm spot cs r) h o k = term_lifts d spot cs r h o k
+step_lifts_in d (HasPart s) h o k = part_lifts d (length h.prefixes + 0) s h o k
+
+step_lifts : (d : ℕ) (st : State) (k : Token) (r : Result State Refusal) → step st k ≡ r → Lifts d (pending st) r (step (wide d st) k)
+step_lifts d st k r e = subst (λ (x : Result State Refusal). Lifts d (pending st) x (step (wide d st) k)) e (step_lifts_in d st.mode st.here st.outer k)
 
 pub unexpected_lifts : (d : ℕ) (st : State) (k : Token) → step st k ≡ Err Unexpected → step (wide d st) k ≡ Err Unexpected
 unexpected_lifts d st k e = step_lifts d st k (Err Unexpected) e
@@ -164,8 +201,8 @@ ambiguous_lifts d st k e = step_lifts d st k (Err Ambiguous) e
 below_next : (n : ℕ) → n < suc n
 below_next n = omega arith
 
-pub deep_lifts : (st : State) (k : Token) → step st k ≡ Err TooDeep → (next : State) × (step (wide (suc (length st.here.prefixes)) st) k ≡ Ok next)
-deep_lifts st k e = let lift = step_lifts (suc (length st.here.prefixes)) st k (Err TooDeep) e in lift (below_next (length st.here.prefixes))
+pub deep_lifts : (st : State) (k : Token) → step st k ≡ Err TooDeep → (next : State) × (step (wide (suc (pending st)) st) k ≡ Ok next)
+deep_lifts st k e = let lift = step_lifts (suc (pending st)) st k (Err TooDeep) e in lift (below_next (pending st))
 
 no_err : (refusal : Refusal) (st : State) → Err refusal ≡ Ok st → ⊥
 no_err refusal st e = cc
@@ -189,3 +226,8 @@ nothing_more n = omega arith
 pub much_wider : (d n : ℕ) (ks : List Token) (s : Sent) → Spells n ks s → Spells (d + n) ks s
 much_wider zero n ks s q = subst (λ (m : ℕ). Spells m ks s) (nothing_more n) q
 much_wider (suc d) n ks s q = subst (λ (m : ℕ). Spells m ks s) (one_more n d) (wider (much_wider d n ks s q))
+
+-- So is a part.
+pub part_much_wider : (d n : ℕ) (ks : List Token) (s : Sent) → SpellsPart n ks s → SpellsPart (d + n) ks s
+part_much_wider zero n ks s q = subst (λ (m : ℕ). SpellsPart m ks s) (nothing_more n) q
+part_much_wider (suc d) n ks s q = subst (λ (m : ℕ). SpellsPart m ks s) (one_more n d) (part_wider (part_much_wider d n ks s q))

@@ -11,7 +11,12 @@ use Rattle.fol_text.specs.declared.fault.Refusal.TheVariants.{Ambiguous, Unexpec
 use Rattle.fol_text.specs.declared.token.Token.{Token}
 use Rattle.fol_text.specs.declared.token.Placed.{Placed}
 use Rattle.fol_text.specs.declared.state.Mode.{Mode}
-use Rattle.fol_text.specs.declared.state.Mode.TheVariants.{WantsPart, WantsVariable, HasPredicate, WantsArgument, HasArgument, HasLeft, WantsRight, HasPart}
+use Rattle.fol_text.specs.declared.state.Mode.TheVariants.{WantsPart, WantsVariable, HasPredicate, WantsTerm, HasTerm, HasPart}
+use Rattle.fol_text.specs.declared.state.Read.{Read}
+use Rattle.fol_text.specs.declared.state.Read.TheVariants.{Variable, Symbol, Function}
+use Rattle.fol_text.specs.declared.state.Spot.{Spot}
+use Rattle.fol_text.specs.declared.state.Spot.TheVariants.{Argument, Left, Right}
+use Rattle.fol_text.specs.declared.state.Call.{Call}
 use Rattle.fol_text.specs.declared.state.Group.{Group}
 use Rattle.fol_text.specs.declared.state.State.{State}
 use Rattle.fol_text.specs.Tokens.{tokens_of, AreTokens}
@@ -68,10 +73,12 @@ end_refusal (HasPart s) h (g ∷ o) refusal e = cc
 end_refusal (HasPredicate p) h (g ∷ o) refusal e = cc
 end_refusal WantsPart h o refusal e = cc
 end_refusal (WantsVariable q) h o refusal e = cc
-end_refusal (WantsArgument p ts) h o refusal e = cc
-end_refusal (HasArgument p ts) h o refusal e = cc
-end_refusal (HasLeft a) h o refusal e = cc
-end_refusal (WantsRight a r) h o refusal e = cc
+end_refusal (WantsTerm spot cs) h o refusal e = cc
+end_refusal (HasTerm (Right a r) [] q) h [] refusal e = cc
+end_refusal (HasTerm (Right a r) (c ∷ cs) q) h [] refusal e = cc
+end_refusal (HasTerm (Argument p ts) cs q) h [] refusal e = cc
+end_refusal (HasTerm Left cs q) h [] refusal e = cc
+end_refusal (HasTerm spot cs q) h (g ∷ o) refusal e = cc
 
 pub stopped_early : (end : ℕ) (ks : List Placed) (st : State) (refusal : Refusal) (fault : ReadFault) → Leads (tokens_of ks) st → ended st ≡ Err refusal → fault ≡ at_place refusal end → StopsAt end ks fault
 stopped_early end ks st refusal fault l d f =

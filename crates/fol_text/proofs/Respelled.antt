@@ -1,56 +1,127 @@
 -- What is printed of a well-formed sentence spells the sentence, and at no token are more pending than the sentence is deep.
-use Rattle.std.proofs.Common.{◌≡◌, ℕ, zero, suc, ◌+◌, ◌≤◌, max, Bool, true, List, [], ◌∷◌, ◌++◌, length, map, Some, refl, sym, ◌∙◌, subst, append_assoc, arith}
+use Rattle.std.proofs.Common.{◌≡◌, ℕ, zero, suc, ◌+◌, ◌≤◌, max, Bool, true, List, [], ◌∷◌, ◌++◌, length, map, Some, refl, ap, sym, true≢false, ◌∙◌, subst, append_assoc, arith}
 use Rattle.std.specs.Prelude.{◌&&◌, nat_le}
 use Rattle.std.specs.List.{list_all}
 use Rattle.std.proofs.lemmas.Bool.{and_parts}
-use Rattle.fol_core.specs.Word.{Word, is_predicate, is_variable}
+use Rattle.fol_core.specs.Word.{Word, is_predicate, is_variable, is_name}
 use Rattle.fol_core.specs.Subst.{itself}
 use Rattle.fol_core.specs.Blocks.{fits}
-use Rattle.fol_core.specs.Size.{depth, depth_step, greatest}
-use Rattle.fol_core.specs.Formed.{formed, formed_step, is_formed_term}
-use Rattle.fol_core.specs.declared.sent.Term.{Term}
-use Rattle.fol_core.specs.declared.sent.Term.TheVariants.{Var, Name}
+use Rattle.fol_core.specs.Size.{depth, depth_step, greatest, term_depth, term_depth_step}
+use Rattle.fol_core.specs.Formed.{formed, formed_step, is_formed_term, formed_term_step}
+use Rattle.fol_core.specs.declared.sent.Term.{Term, roll-Term}
+use Rattle.fol_core.specs.declared.sent.Term.TheVariants.{Var, Name, App, rolls-Var, rolls-Name, rolls-App}
+use Rattle.fol_core.specs.declared.sent.Term.TheOpen.{Term-F}
+use Rattle.fol_core.specs.declared.sent.Term.TheOpen as t
+use Rattle.fol_core.specs.declared.sent.Term.TheFolds.{ind-Term, fold-roll-Term, map-Term}
 use Rattle.fol_core.specs.declared.sent.Sent.{Sent, roll-Sent}
 use Rattle.fol_core.specs.declared.sent.Sent.TheVariants.{Atom, Eq, Bottom, Not, And, Or, If, Iff, All, Ex, rolls-Atom, rolls-Eq, rolls-Bottom, rolls-Not, rolls-And, rolls-Or, rolls-If, rolls-Iff, rolls-All, rolls-Ex}
 use Rattle.fol_core.specs.declared.sent.Sent.TheOpen.{Sent-F}
 use Rattle.fol_core.specs.declared.sent.Sent.TheOpen as f
 use Rattle.fol_core.specs.declared.sent.Sent.TheFolds.{ind-Sent, fold-roll-Sent, map-Sent}
+use Rattle.fol_core.proofs.Parts.{all_itself}
 use Rattle.fol_text.specs.declared.token.Token.{Token}
 use Rattle.fol_text.specs.declared.token.Token.TheVariants.{NotSign, AndSign, OrSign, IfSign, IffSign, AllSign, ExistsSign, FalsumSign, Equals, Unequal, Open, Close, Comma, Identifier}
 use Rattle.fol_text.specs.Tokens.{typed_sign}
-use Rattle.fol_text.specs.Grammar.{SpellsTerm, variable, name, SpellsTerms, last_term, more_terms, Spells, one_part, conjunction, disjunction, conditional, biconditional, SpellsParts, last_part, more_parts, SpellsPart, letter, atom, equation, inequation, falsum, negation, universal, existential, group}
-use Rattle.fol_text.specs.Printed.{Texts, shown, printed_step, plain, with_connective, separated, term_text, atom_text, in_parentheses}
+use Rattle.fol_text.specs.Grammar.{SpellsTerm, variable, name, function, SpellsTerms, last_term, more_terms, Spells, one_part, conjunction, disjunction, conditional, biconditional, SpellsParts, last_part, more_parts, SpellsPart, letter, atom, equation, inequation, falsum, negation, universal, existential, group}
+use Rattle.fol_text.specs.Printed.{Texts, shown, printed_step, plain, with_connective, separated, term_text, term_step, atom_text, in_parentheses}
 use Rattle.fol_text.proofs.WordKinds.{variable_ident, name_ident, predicate_ident}
 use Rattle.fol_text.proofs.Written.{Written, sign_written, word_written, both_written, sign_alone, group_written, comma_written, spaced_written, quantifier_written, not_typed, and_typed, or_typed, if_typed, iff_typed, all_typed, exists_typed, falsum_typed, equals_typed, unequal_typed}
 
 -- terms
 
-record TermShown (t : Term) : Type 0 where
-  token : Token
-  written : Written (term_text t) (token ∷ [])
-  spells : SpellsTerm token t
-
-term_shown : (t : Term) → is_formed_term t ≡ true → TermShown t
-term_shown (Var x) i = record { token = Identifier x; written = word_written x (variable_ident x i); spells = variable x i }
-term_shown (Name n) i = record { token = Identifier n; written = word_written n (name_ident n i); spells = name n i }
+-- The text of a term with its tokens, which spell it. At no token are more parentheses pending than the term is deep.
+record TermShown (text : List ℕ) (deep : ℕ) (t : Term) : Type 0 where
+  tokens : List Token
+  written : Written text tokens
+  spells : (room : ℕ) → deep ≤ room → SpellsTerm room tokens t
 
 record TermsShown (ts : List Term) : Type 0 where
   tokens : List Token
   written : Written (separated (44 ∷ []) (map term_text ts)) tokens
-  spells : SpellsTerms tokens ts
+  spells : (room : ℕ) → greatest (map term_depth ts) ≤ room → SpellsTerms room tokens ts
 
-more_terms_shown : (t u : Term) (ts : List Term) → TermShown t → TermsShown (u ∷ ts) → TermsShown (t ∷ u ∷ ts)
-more_terms_shown t u ts h i = record {
-  tokens = h.token ∷ Comma ∷ i.tokens;
-  written = comma_written (term_text t) (separated (44 ∷ []) (map term_text (u ∷ ts))) (h.token ∷ []) i.tokens h.written i.written;
-  spells = more_terms h.token t i.tokens (u ∷ ts) h.spells i.spells;
+abbrev IsTermShown : Term → Type 0
+IsTermShown u = is_formed_term u ≡ true → TermShown (term_text u) (term_depth u) u
+
+-- each of the terms is shown
+abbrev AreShown : List Term → Type 0
+AreShown [] = Unit {0}
+AreShown (u ∷ us) = IsTermShown u × AreShown us
+
+first_deep : (m n room : ℕ) → max m n ≤ room → m ≤ room
+first_deep m n room h = omega (arith, h)
+
+rest_deep : (m n room : ℕ) → max m n ≤ room → n ≤ room
+rest_deep m n room h = omega (arith, h)
+
+last_term_shown : (u : Term) → TermShown (term_text u) (term_depth u) u → TermsShown (u ∷ [])
+last_term_shown u h = record { tokens = h.tokens; written = h.written; spells = λ room l. last_term room h.tokens u (h.spells room (first_deep (term_depth u) 0 room l)) }
+
+more_terms_shown : (u v : Term) (us : List Term) → TermShown (term_text u) (term_depth u) u → TermsShown (v ∷ us) → TermsShown (u ∷ v ∷ us)
+more_terms_shown u v us h i = record {
+  tokens = h.tokens ++ Comma ∷ i.tokens;
+  written = comma_written (term_text u) (separated (44 ∷ []) (map term_text (v ∷ us))) h.tokens i.tokens h.written i.written;
+  spells = λ room l. more_terms room h.tokens i.tokens u (v ∷ us) (h.spells room (first_deep (term_depth u) (greatest (map term_depth (v ∷ us))) room l))
+      (i.spells room (rest_deep (term_depth u) (greatest (map term_depth (v ∷ us))) room l));
 }
 
-terms_shown : (t : Term) (ts : List Term) → (is_formed_term t && list_all is_formed_term ts) ≡ true → TermsShown (t ∷ ts)
-terms_shown t [] i = let h = term_shown t ((and_parts (is_formed_term t) true i).0) in record { tokens = h.token ∷ []; written = h.written; spells = last_term h.token t h.spells }
-terms_shown t (u ∷ ts) i =
-    let (first, rest) = and_parts (is_formed_term t) (is_formed_term u && list_all is_formed_term ts) i in
-    more_terms_shown t u ts (term_shown t first) (terms_shown u ts rest)
+terms_shown : (u : Term) (us : List Term) → IsTermShown u → AreShown us → (is_formed_term u && list_all is_formed_term us) ≡ true → TermsShown (u ∷ us)
+terms_shown u [] f s i = last_term_shown u (f ((and_parts (is_formed_term u) true i).0))
+terms_shown u (v ∷ us) f s i =
+    let (first, rest) = and_parts (is_formed_term u) (is_formed_term v && list_all is_formed_term us) i in
+    more_terms_shown u v us (f first) (terms_shown v us s.0 s.1 rest)
+
+called : (deep : ℕ) (g : Word) (ks : List Token) (ts : List Term) → is_name g ≡ true → ((room : ℕ) → deep ≤ room → SpellsTerms room ks ts) → (room : ℕ) → 1 + deep ≤ room → SpellsTerm room (Identifier g ∷ Open ∷ ks ++ Close ∷ []) (App g ts)
+called deep g ks ts i q zero h = absurd (omega (arith, h))
+called deep g ks ts i q (suc room) h = function room g ks ts i (q room (omega (arith, h)))
+
+function_shown : (g : Word) (ts : List Term) → is_name g ≡ true → TermsShown ts → TermShown (g ++ in_parentheses (separated (44 ∷ []) (map term_text ts))) (1 + greatest (map term_depth ts)) (App g ts)
+function_shown g ts i h = record {
+  tokens = Identifier g ∷ Open ∷ h.tokens ++ Close ∷ [];
+  written = both_written g (in_parentheses (separated (44 ∷ []) (map term_text ts))) (Identifier g ∷ []) (Open ∷ h.tokens ++ Close ∷ []) (word_written g (name_ident g i)) (group_written _ h.tokens h.written) (λ rest. refl);
+  spells = called (greatest (map term_depth ts)) g h.tokens ts i h.spells;
+}
+
+-- the induction over the term
+
+abbrev HeldTerm : Type 0
+HeldTerm = (u : Term) × IsTermShown u
+
+abbrev bare_term : Term-F HeldTerm → Term-F Term
+bare_term = map-Term HeldTerm Term (λ e. e.0)
+
+abbrev terms_of : List HeldTerm → List Term
+terms_of es = map (λ (e : HeldTerm). e.0) es
+
+all_held : (es : List HeldTerm) → AreShown (terms_of es)
+all_held [] = tt
+all_held (e ∷ es) = (e.1, all_held es)
+
+call_shown : (g : Word) (es : List HeldTerm) → ((is_name g && nat_le 1 (length (map is_formed_term (terms_of es)))) && list_all itself (map is_formed_term (terms_of es))) ≡ true
+    → TermShown (g ++ in_parentheses (separated (44 ∷ []) (map term_text (terms_of es)))) (1 + greatest (map term_depth (terms_of es))) (App g (terms_of es))
+call_shown g [] i = absurd (true≢false (sym ((and_parts (is_name g) (nat_le 1 0) ((and_parts (is_name g && nat_le 1 0) true i).0)).1)))
+call_shown g (e ∷ es) i =
+    let (front, all) = and_parts (is_name g && nat_le 1 (length (map is_formed_term (terms_of (e ∷ es))))) (list_all itself (map is_formed_term (terms_of (e ∷ es)))) i in
+    function_shown g (terms_of (e ∷ es)) ((and_parts (is_name g) (nat_le 1 (length (map is_formed_term (terms_of (e ∷ es))))) front).0)
+    (terms_shown e.0 (terms_of es) e.1 (all_held es) (sym (all_itself is_formed_term (terms_of (e ∷ es))) ∙ all))
+
+term_step_shown : (y : Term-F HeldTerm) → formed_term_step (map-Term Term Bool is_formed_term (bare_term y)) ≡ true
+    → TermShown (term_step (map-Term Term (List ℕ) term_text (bare_term y))) (term_depth_step (map-Term Term ℕ term_depth (bare_term y))) (roll-Term (bare_term y))
+term_step_shown (t.Var x) i = subst (λ (u : Term). TermShown x 0 u) (sym (rolls-Var x)) (record { tokens = Identifier x ∷ []; written = word_written x (variable_ident x i); spells = λ room l. variable room x i })
+term_step_shown (t.Name n) i = subst (λ (u : Term). TermShown n 0 u) (sym (rolls-Name n)) (record { tokens = Identifier n ∷ []; written = word_written n (name_ident n i); spells = λ room l. name room n i })
+term_step_shown (t.App g es) i =
+    subst (λ (u : Term). TermShown (g ++ in_parentheses (separated (44 ∷ []) (map term_text (terms_of es)))) (1 + greatest (map term_depth (terms_of es))) u) (sym (rolls-App g (terms_of es))) (call_shown g es i)
+
+term_shown : (u : Term) → IsTermShown u
+term_shown = ind-Term IsTermShown (λ l y is.
+    subst (λ (m : Term-F Term). IsTermShown (roll-Term m)) is (λ i.
+    subst (λ (x : List ℕ). TermShown x (term_depth (roll-Term (bare_term y))) (roll-Term (bare_term y))) (sym (fold-roll-Term (List ℕ) term_step (bare_term y)))
+    (subst (λ (n : ℕ). TermShown (term_step (map-Term Term (List ℕ) term_text (bare_term y))) n (roll-Term (bare_term y))) (sym (fold-roll-Term ℕ term_depth_step (bare_term y)))
+    (term_step_shown y (sym (fold-roll-Term Bool formed_term_step (bare_term y)) ∙ i)))))
+
+all_shown_terms : (us : List Term) → AreShown us
+all_shown_terms [] = tt
+all_shown_terms (u ∷ us) = (term_shown u, all_shown_terms us)
 
 -- The three texts of a sentence, each with the tokens that it is and what they spell. At no token are more pending than the
 -- sentence is deep, and behind a `~` one more.
@@ -116,25 +187,35 @@ joined_shown t ks deep s w q = record {
 
 -- one form after the other
 
-atom_shown : (p : Word) (ts : List Term) → is_predicate p ≡ true → list_all is_formed_term ts ≡ true → Shown (plain (atom_text p ts)) 1 (Atom p ts)
-atom_shown p [] i e = plain_shown p (Identifier p ∷ []) 1 (Atom p []) (word_written p (predicate_ident p i)) (λ room h. letter room p i)
-atom_shown p (t ∷ ts) i e =
-    let h = terms_shown t ts e in
-    plain_shown (atom_text p (t ∷ ts)) (Identifier p ∷ Open ∷ h.tokens ++ Close ∷ []) 1 (Atom p (t ∷ ts))
-    (both_written p (in_parentheses (separated (44 ∷ []) (map term_text (t ∷ ts)))) (Identifier p ∷ []) (Open ∷ h.tokens ++ Close ∷ []) (word_written p (predicate_ident p i)) (group_written _ h.tokens h.written) (λ rest. refl))
-    (λ room l. atom room p h.tokens (t ∷ ts) i h.spells)
+inside : (deep room : ℕ) → 1 + deep ≤ room → deep ≤ room
+inside deep room h = omega (arith, h)
 
-equation_shown : (a b : Term) → TermShown a → TermShown b → Shown (printed_step (f.Eq a b)) 1 (Eq a b)
+atom_shown : (p : Word) (ts : List Term) → is_predicate p ≡ true → list_all is_formed_term ts ≡ true → Shown (plain (atom_text p ts)) (1 + greatest (map term_depth ts)) (Atom p ts)
+atom_shown p [] i e = plain_shown p (Identifier p ∷ []) (1 + greatest (map term_depth [])) (Atom p []) (word_written p (predicate_ident p i)) (λ room h. letter room p i)
+atom_shown p (u ∷ ts) i e =
+    let h = terms_shown u ts (term_shown u) (all_shown_terms ts) e in
+    plain_shown (atom_text p (u ∷ ts)) (Identifier p ∷ Open ∷ h.tokens ++ Close ∷ []) (1 + greatest (map term_depth (u ∷ ts))) (Atom p (u ∷ ts))
+    (both_written p (in_parentheses (separated (44 ∷ []) (map term_text (u ∷ ts)))) (Identifier p ∷ []) (Open ∷ h.tokens ++ Close ∷ []) (word_written p (predicate_ident p i)) (group_written _ h.tokens h.written) (λ rest. refl))
+    (λ room l. atom room p h.tokens (u ∷ ts) i (h.spells room (inside (greatest (map term_depth (u ∷ ts))) room l)))
+
+of_left : (m n room : ℕ) → 1 + max m n ≤ room → m ≤ room
+of_left m n room h = omega (arith, h)
+
+of_right : (m n room : ℕ) → 1 + max m n ≤ room → n ≤ room
+of_right m n room h = omega (arith, h)
+
+equation_shown : (a b : Term) → TermShown (term_text a) (term_depth a) a → TermShown (term_text b) (term_depth b) b → Shown (printed_step (f.Eq a b)) (1 + max (term_depth a) (term_depth b)) (Eq a b)
 equation_shown a b h i = record {
-  alone_tokens = h.token ∷ Equals ∷ i.token ∷ [];
-  part_tokens = h.token ∷ Equals ∷ i.token ∷ [];
-  denied_tokens = h.token ∷ Unequal ∷ i.token ∷ [];
-  alone_written = spaced_written 61 Equals (term_text a) (term_text b) (h.token ∷ []) (i.token ∷ []) equals_typed h.written i.written;
-  part_written = spaced_written 61 Equals (term_text a) (term_text b) (h.token ∷ []) (i.token ∷ []) equals_typed h.written i.written;
-  denied_written = spaced_written 35 Unequal (term_text a) (term_text b) (h.token ∷ []) (i.token ∷ []) unequal_typed h.written i.written;
-  alone = λ room l. one_part room (h.token ∷ Equals ∷ i.token ∷ []) (Eq a b) (equation room h.token i.token a b h.spells i.spells);
-  part = λ room l. equation room h.token i.token a b h.spells i.spells;
-  denied = λ room l. inequation room h.token i.token a b h.spells i.spells;
+  alone_tokens = h.tokens ++ Equals ∷ i.tokens;
+  part_tokens = h.tokens ++ Equals ∷ i.tokens;
+  denied_tokens = h.tokens ++ Unequal ∷ i.tokens;
+  alone_written = spaced_written 61 Equals (term_text a) (term_text b) h.tokens i.tokens equals_typed h.written i.written;
+  part_written = spaced_written 61 Equals (term_text a) (term_text b) h.tokens i.tokens equals_typed h.written i.written;
+  denied_written = spaced_written 35 Unequal (term_text a) (term_text b) h.tokens i.tokens unequal_typed h.written i.written;
+  alone = λ room l. one_part room (h.tokens ++ Equals ∷ i.tokens) (Eq a b) (equation room h.tokens i.tokens a b (h.spells room (of_left (term_depth a) (term_depth b) room l)) (i.spells room (of_right (term_depth a) (term_depth b) room l)));
+  part = λ room l. equation room h.tokens i.tokens a b (h.spells room (of_left (term_depth a) (term_depth b) room l)) (i.spells room (of_right (term_depth a) (term_depth b) room l));
+  denied = λ room l. inequation room h.tokens i.tokens a b (h.spells room (of_left (term_depth a) (term_depth b) room (inside (1 + max (term_depth a) (term_depth b)) room l)))
+      (i.spells room (of_right (term_depth a) (term_depth b) room (inside (1 + max (term_depth a) (term_depth b)) room l)));
 }
 
 not_shown : (t : Texts) (deep : ℕ) (s : Sent) → Shown t deep s → Shown (plain t.denied) (1 + deep) (Not s)
@@ -249,10 +330,10 @@ step_shown : (y : Sent-F Held) → formed_step (map-Sent Sent Bool formed (bare 
     → Shown (printed_step (map-Sent Sent Texts shown (bare y))) (depth_step (map-Sent Sent ℕ depth (bare y))) (roll-Sent (bare y))
 step_shown (f.Atom p ts) i =
     let (front, terms) = and_parts (is_predicate p && fits p (length ts)) (list_all is_formed_term ts) i in
-    subst (λ (s : Sent). Shown (plain (atom_text p ts)) 1 s) (sym (rolls-Atom p ts)) (atom_shown p ts ((and_parts (is_predicate p) (fits p (length ts)) front).0) terms)
+    subst (λ (s : Sent). Shown (plain (atom_text p ts)) (1 + greatest (map term_depth ts)) s) (sym (rolls-Atom p ts)) (atom_shown p ts ((and_parts (is_predicate p) (fits p (length ts)) front).0) terms)
 step_shown (f.Eq a b) i =
     let (left, right) = and_parts (is_formed_term a) (is_formed_term b) i in
-    subst (λ (s : Sent). Shown (printed_step (f.Eq a b)) 1 s) (sym (rolls-Eq a b)) (equation_shown a b (term_shown a left) (term_shown b right))
+    subst (λ (s : Sent). Shown (printed_step (f.Eq a b)) (1 + max (term_depth a) (term_depth b)) s) (sym (rolls-Eq a b)) (equation_shown a b (term_shown a left) (term_shown b right))
 step_shown f.Bottom i = subst (λ (s : Sent). Shown (plain (94 ∷ [])) 1 s) (sym rolls-Bottom) (plain_shown (94 ∷ []) (FalsumSign ∷ []) 1 Bottom (sign_alone 94 FalsumSign falsum_typed) (λ room h. falsum room))
 step_shown (f.Not e) i = subst (λ (s : Sent). Shown (plain (shown e.0).denied) (1 + depth e.0) s) (sym (rolls-Not e.0)) (not_shown (shown e.0) (depth e.0) e.0 (e.1 i))
 step_shown (f.And es) i =

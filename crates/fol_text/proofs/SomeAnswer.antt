@@ -25,7 +25,12 @@ use Rattle.fol_text.specs.declared.state.Relation.{Relation}
 use Rattle.fol_text.specs.declared.state.Begun.{Begun}
 use Rattle.fol_text.specs.declared.state.Begun.TheVariants.{Nothing, Conjunction, Disjunction}
 use Rattle.fol_text.specs.declared.state.Mode.{Mode}
-use Rattle.fol_text.specs.declared.state.Mode.TheVariants.{WantsPart, WantsVariable, HasPredicate, WantsArgument, HasArgument, HasLeft, WantsRight, HasPart}
+use Rattle.fol_text.specs.declared.state.Mode.TheVariants.{WantsPart, WantsVariable, HasPredicate, WantsTerm, HasTerm, HasPart}
+use Rattle.fol_text.specs.declared.state.Read.{Read}
+use Rattle.fol_text.specs.declared.state.Read.TheVariants.{Variable, Symbol, Function}
+use Rattle.fol_text.specs.declared.state.Spot.{Spot}
+use Rattle.fol_text.specs.declared.state.Spot.TheVariants.{Argument, Left, Right}
+use Rattle.fol_text.specs.declared.state.Call.{Call}
 use Rattle.fol_text.specs.declared.state.Group.{Group}
 use Rattle.fol_text.specs.declared.state.State.{State}
 use Rattle.fol_text.specs.Tokens.{placed, tokens_of, SpellsToken, AreTokens, at_end, blank, token, IsBadAt, starts_none, past_blank, past_token}
@@ -34,7 +39,7 @@ use Rattle.fol_text.specs.Grammar.{Spells}
 use Rattle.fol_text.specs.Occurrences.{first_false, predicate_places, term_places, fitting, boundness}
 use Rattle.fol_text.specs.Readable.{IsReadable, IsFit}
 use Rattle.fol_text.specs.Refusals.{IsStopped, IsUnfit, depth_over, nodes_over, wrong_places, free, IsRefused, too_long, bad_byte, stopped, unfit}
-use Rattle.fol_text.specs.Machine.{state, group_of, wrapped, finished, related, term_of, with_term, negated, open_group, close_group, conjoin, disjoin, imply, equate, joined, after_part, begin_part, take_variable, after_predicate, take_argument, after_argument, after_left, take_right, step_in, step, ended, begin, at_place}
+use Rattle.fol_text.specs.Machine.{state, group_of, wrapped, finished, related, word_of, with_word, read_term, call_of, in_call, behind_term, after_term, negated, open_group, close_group, conjoin, disjoin, imply, equate, joined, after_part, begin_part, take_variable, after_predicate, take_term, after_argument, after_left, step_in, step, ended, begin, at_place}
 use Rattle.fol_text.proofs.Lexing.{token_starts, token_sound, no_token}
 use Rattle.fol_text.proofs.Stopping.{Leads, leads_none, leads_on}
 use Rattle.fol_text.proofs.Reading.{stopped_by, end_refusal, stopped_early, spells_at_end}
@@ -54,13 +59,13 @@ has_room : (b : Bool) (st : State) → Has (if b then Ok st else Err TooDeep)
 has_room true st = tt
 has_room false st = tt
 
-has_term : (f : Option Term) (next : Term → State) → Has (with_term f next)
-has_term None next = tt
-has_term (Some t) next = tt
+has_read : (f : Option Read) (next : Read → State) → Has (with_word f next)
+has_read None next = tt
+has_read (Some t) next = tt
 
-has_word : (w : Word) (h : Group) (o : List Group) (p : Bool) → Has (if p then Ok (state (HasPredicate w) h o) else with_term (term_of w) (λ t. state (HasLeft t) h o))
+has_word : (w : Word) (h : Group) (o : List Group) (p : Bool) → Has (if p then Ok (state (HasPredicate w) h o) else with_word (word_of w) (λ r. state (HasTerm Left [] r) h o))
 has_word w h o true = tt
-has_word w h o false = has_term (term_of w) (λ t. state (HasLeft t) h o)
+has_word w h o false = has_read (word_of w) (λ r. state (HasTerm Left [] r) h o)
 
 has_begin : (h : Group) (o : List Group) (k : Token) → Has (begin_part h o k)
 has_begin h o (Identifier w) = has_word w h o (is_predicate w)
@@ -109,9 +114,9 @@ has_variable : (q : Quantifier) (h : Group) (o : List Group) (k : Token) → Has
 has_variable q h o (Identifier x) = has_if (is_variable x) (state WantsPart (group_of h.room (Quantified q x ∷ h.prefixes) h.begun) o)
 has_variable q h o k = tt
 
-has_argument : (p : Word) (ts : List Term) (h : Group) (o : List Group) (k : Token) → Has (take_argument p ts h o k)
-has_argument p ts h o (Identifier w) = has_term (term_of w) (λ t. state (HasArgument p (ts ++ t ∷ [])) h o)
-has_argument p ts h o k = tt
+has_take : (spot : Spot) (cs : List Call) (h : Group) (o : List Group) (k : Token) → Has (take_term spot cs h o k)
+has_take spot cs h o (Identifier w) = has_read (word_of w) (λ r. state (HasTerm spot cs r) h o)
+has_take spot cs h o k = tt
 
 has_end : (p : Word) (ts : List Term) (h : Group) (o : List Group) (k : Token) → Has (after_argument p ts h o k)
 has_end p ts h o Comma = tt
@@ -123,18 +128,29 @@ has_left a h o Equals = tt
 has_left a h o Unequal = tt
 has_left a h o k = tt
 
-has_right : (a : Term) (r : Relation) (h : Group) (o : List Group) (k : Token) → Has (take_right a r h o k)
-has_right a r h o (Identifier w) = has_term (term_of w) (λ t. finished (related a r t) h o)
-has_right a r h o k = tt
+has_call : (spot : Spot) (g : Word) (us : List Term) (cs : List Call) (t : Term) (h : Group) (o : List Group) (k : Token) → Has (in_call spot g us cs t h o k)
+has_call spot g us cs t h o Comma = tt
+has_call spot g us cs t h o Close = tt
+has_call spot g us cs t h o k = tt
+
+has_behind : (spot : Spot) (cs : List Call) (t : Term) (h : Group) (o : List Group) (k : Token) → Has (behind_term spot cs t h o k)
+has_behind (Argument p ts) [] t h o k = has_end p (ts ++ t ∷ []) h o k
+has_behind Left [] t h o k = has_left t h o k
+has_behind (Right a r) [] t h o k = has_after (wrapped h.prefixes (related a r t)) (group_of h.room [] h.begun) o k
+has_behind spot (c ∷ cs) t h o k = has_call spot c.symbol c.arguments cs t h o k
+
+has_term : (spot : Spot) (cs : List Call) (r : Read) (h : Group) (o : List Group) (k : Token) → Has (after_term spot cs r h o k)
+has_term spot cs (Symbol g) h o Open = has_room (nat_lt (length h.prefixes + length cs) h.room) (state (WantsTerm spot (call_of g [] ∷ cs)) h o)
+has_term spot cs (Symbol g) h o k = has_behind spot cs (read_term (Symbol g)) h o k
+has_term spot cs (Variable x) h o k = has_behind spot cs (read_term (Variable x)) h o k
+has_term spot cs (Function t) h o k = has_behind spot cs t h o k
 
 has_step : (m : Mode) (h : Group) (o : List Group) (k : Token) → Has (step_in m h o k)
 has_step WantsPart h o k = has_begin h o k
 has_step (WantsVariable q) h o k = has_variable q h o k
 has_step (HasPredicate p) h o k = has_predicate p h o k
-has_step (WantsArgument p ts) h o k = has_argument p ts h o k
-has_step (HasArgument p ts) h o k = has_end p ts h o k
-has_step (HasLeft a) h o k = has_left a h o k
-has_step (WantsRight a r) h o k = has_right a r h o k
+has_step (WantsTerm spot cs) h o k = has_take spot cs h o k
+has_step (HasTerm spot cs r) h o k = has_term spot cs r h o k
 has_step (HasPart s) h o k = has_after s h o k
 
 never_memory : (st : State) (k : Token) → step st k ≡ Err Memory → ⊥

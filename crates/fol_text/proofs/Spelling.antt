@@ -5,12 +5,14 @@ use Rattle.fol_core.specs.declared.sent.Sent.{Sent}
 use Rattle.fol_core.specs.declared.sent.Sent.TheVariants.{And, Or}
 use Rattle.fol_text.specs.declared.token.Token.{Token}
 use Rattle.fol_text.specs.declared.token.Token.TheVariants.{AndSign, OrSign, Comma}
-use Rattle.fol_text.specs.Grammar.{SpellsTerm, SpellsTerms, last_term, more_terms, Spells, one_part, conjunction, disjunction, conditional, biconditional, SpellsParts, last_part, more_parts, SpellsPart, letter, atom, equation, inequation, falsum, negation, universal, existential, group}
+use Rattle.fol_text.specs.Grammar.{SpellsTerm, variable, name, function, SpellsTerms, last_term, more_terms, Spells, one_part, conjunction, disjunction, conditional, biconditional, SpellsParts, last_part, more_parts, SpellsPart, letter, atom, equation, inequation, falsum, negation, universal, existential, group}
 use Rattle.fol_text.specs.Machine.{conjoined, disjoined}
 
-pub terms_snoc : {ks : List Token} {ts : List Term} → SpellsTerms ks ts → (k : Token) (t : Term) → SpellsTerm k t → SpellsTerms (ks ++ Comma ∷ k ∷ []) (ts ++ t ∷ [])
-terms_snoc (last_term j u i) k t h = more_terms j u (k ∷ []) (t ∷ []) i (last_term k t h)
-terms_snoc (more_terms j u ks ts i q) k t h = more_terms j u (ks ++ Comma ∷ k ∷ []) (ts ++ t ∷ []) i (terms_snoc q k t h)
+pub terms_snoc : {n : ℕ} {ks : List Token} {ts : List Term} → SpellsTerms n ks ts → (js : List Token) (t : Term) → SpellsTerm n js t → SpellsTerms n (ks ++ Comma ∷ js) (ts ++ t ∷ [])
+terms_snoc (last_term n ks u i) js t h = more_terms n ks js u (t ∷ []) i (last_term n js t h)
+terms_snoc (more_terms n ks ls u ts i q) js t h =
+    subst (λ (xs : List Token). SpellsTerms n xs (u ∷ ts ++ t ∷ [])) (sym (append_assoc ks (Comma ∷ ls) (Comma ∷ js)))
+    (more_terms n ks (ls ++ Comma ∷ js) u (ts ++ t ∷ []) i (terms_snoc q js t h))
 
 pub parts_snoc : {sign : Token} {n : ℕ} {ks : List Token} {ss : List Sent} → SpellsParts sign n ks ss → (js : List Token) (s : Sent) → SpellsPart n js s → SpellsParts sign n (ks ++ sign ∷ js) (ss ++ s ∷ [])
 parts_snoc (last_part sign n ks t q) js s h = more_parts sign n ks js t (s ∷ []) q (last_part sign n js s h)
@@ -47,11 +49,21 @@ disjoined_spelled n ks ss r js s h =
 
 -- What is spelled in some room is spelled in more of it.
 mutual
-  part_wider : {n : ℕ} {ks : List Token} {s : Sent} → SpellsPart n ks s → SpellsPart (suc n) ks s
+  term_wider : {n : ℕ} {ks : List Token} {t : Term} → SpellsTerm n ks t → SpellsTerm (suc n) ks t
+  term_wider (variable n x i) = variable (suc n) x i
+  term_wider (name n k i) = name (suc n) k i
+  term_wider (function n g ks ts i q) = function (suc n) g ks ts i (terms_wider q)
+
+  terms_wider : {n : ℕ} {ks : List Token} {ts : List Term} → SpellsTerms n ks ts → SpellsTerms (suc n) ks ts
+  terms_wider (last_term n ks t i) = last_term (suc n) ks t (term_wider i)
+  terms_wider (more_terms n ks js t ts i q) = more_terms (suc n) ks js t ts (term_wider i) (terms_wider q)
+
+mutual
+  pub part_wider : {n : ℕ} {ks : List Token} {s : Sent} → SpellsPart n ks s → SpellsPart (suc n) ks s
   part_wider (letter n p i) = letter (suc n) p i
-  part_wider (atom n p ks ts i q) = atom (suc n) p ks ts i q
-  part_wider (equation n k j a b x y) = equation (suc n) k j a b x y
-  part_wider (inequation n k j a b x y) = inequation (suc n) k j a b x y
+  part_wider (atom n p ks ts i q) = atom (suc n) p ks ts i (terms_wider q)
+  part_wider (equation n ks js a b x y) = equation (suc n) ks js a b (term_wider x) (term_wider y)
+  part_wider (inequation n ks js a b x y) = inequation (suc n) ks js a b (term_wider x) (term_wider y)
   part_wider (falsum n) = falsum (suc n)
   part_wider (negation n ks s q) = negation (suc n) ks s (part_wider q)
   part_wider (universal n x ks s v q) = universal (suc n) x ks s v (part_wider q)

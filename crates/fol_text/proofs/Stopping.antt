@@ -1,5 +1,5 @@
 -- Where the machine stops, the grammar says so: the laws of each refusal of a token, and of the end.
-use Rattle.std.proofs.Common.{◌≡◌, ℕ, suc, ◌+◌, List, [], ◌∷◌, ◌++◌, length, Ok, Err, refl, ap, sym, ◌∙◌}
+use Rattle.std.proofs.Common.{◌≡◌, ℕ, suc, ◌+◌, List, [], ◌∷◌, ◌++◌, Ok, Err, refl, ap, sym, ◌∙◌}
 use Rattle.fol_core.specs.declared.sent.Sent.{Sent}
 use Rattle.fol_text.specs.declared.fault.Refusal.{Refusal}
 use Rattle.fol_text.specs.declared.fault.Refusal.TheVariants.{Ambiguous, Unexpected, TooDeep}
@@ -10,7 +10,7 @@ use Rattle.fol_text.specs.Refusals.{BeginsWithin, Begins, JoinsPart}
 use Rattle.fol_text.specs.Machine.{step, ended, begin, reach, go}
 use Rattle.fol_text.proofs.Complete.{spelled_is_read}
 use Rattle.fol_text.proofs.Finishing.{built_begins, reached, reach_then, reach_snoc, taken}
-use Rattle.fol_text.proofs.Raising.{wide, unexpected_lifts, ambiguous_lifts, deep_lifts, reach_lifts, much_wider}
+use Rattle.fol_text.proofs.Raising.{wide, pending, unexpected_lifts, ambiguous_lifts, deep_lifts, reach_lifts, much_wider}
 use Rattle.fol_text.proofs.Endings.{unexpected_joins_none, ambiguous_joins}
 use Rattle.std.proofs.lemmas.List.{append-nil}
 
@@ -48,7 +48,7 @@ ambiguous_is ks k st e f = ambiguous_joins 120 ks k st (reached 120 ks st e) f
 
 pub deep_begins : (ks : List Token) (k : Token) (st : State) → Leads ks st → step st k ≡ Err TooDeep → Begins (ks ++ k ∷ [])
 deep_begins ks k st e f =
-    let d = suc (length st.here.prefixes) in
+    let d = suc (pending st) in
     let (next, g) = deep_lifts st k f in
     let h = reach_snoc ks k (begin (120 + d)) (wide d st) next (reach_lifts d ks (begin 120) st e) g in
     (120 + d, built_begins (120 + d) next (ks ++ k ∷ []) (reached (120 + d) (ks ++ k ∷ []) next h))

@@ -1,14 +1,12 @@
--- The kinds of identifiers: no word is of two kinds, and a term's token is its identifier.
-use Rattle.std.proofs.Common.{◌≡◌, ℕ, arith, Bool, true, false, not, ◌&&◌, List, [], ◌∷◌, length, Some, refl, ap₂}
+-- The kinds of identifiers: no word is of two kinds.
+use Rattle.std.proofs.Common.{◌≡◌, ℕ, arith, Bool, true, false, not, ◌&&◌, List, [], ◌∷◌, length, Some, None, if◌then◌else◌, refl, ap₂, subst}
 use Rattle.std.specs.Prelude.{nat_le}
 use Rattle.std.specs.List.{list_all}
 use Rattle.std.proofs.lemmas.Bool.Decides.{nat_tests}
 use Rattle.fol_core.specs.Word.{Word, is_ident, is_letter, is_digit, goes_on, begins_with_capital, spells_variable, is_predicate, is_variable, is_name}
-use Rattle.fol_core.specs.declared.sent.Term.{Term}
-use Rattle.fol_text.specs.declared.token.Token.{Token}
-use Rattle.fol_text.specs.declared.token.Token.TheVariants.{Identifier}
-use Rattle.fol_text.specs.Grammar.{SpellsTerm, variable, name}
-use Rattle.fol_text.specs.Machine.{term_of}
+use Rattle.fol_text.specs.declared.state.Read.{Read}
+use Rattle.fol_text.specs.declared.state.Read.TheVariants.{Variable, Symbol}
+use Rattle.fol_text.specs.Machine.{word_of}
 
 second_false : (a b : Bool) → b ≡ false → (a && b) ≡ false
 second_false true b e = e
@@ -43,16 +41,33 @@ name_no_variable w e =
     let (front, last) = both (is_ident w && not (begins_with_capital w)) (not (spells_variable w)) e in
     denied (spells_variable w) last
 
--- The identifier of a term.
-pub record IsTerm (k : Token) (t : Term) : Type 0 where
-  pub spelling : Word
-  pub is : k ≡ Identifier spelling
-  pub found : term_of spelling ≡ Some t
-  pub no_predicate : is_predicate spelling ≡ false
+-- What a word of a term is read as.
+pub variable_read : (w : Word) → is_variable w ≡ true → word_of w ≡ Some (Variable w)
+variable_read w i = rw i refl
 
-pub term_found : {k : Token} {t : Term} → SpellsTerm k t → IsTerm k t
-term_found (variable x i) = record { spelling = x; is = refl; found = rw i refl; no_predicate = variable_no_predicate x i }
-term_found (name n i) = record { spelling = n; is = refl; found = rw (name_no_variable n i, i) refl; no_predicate = name_no_predicate n i }
+pub name_read : (w : Word) → is_name w ≡ true → word_of w ≡ Some (Symbol w)
+name_read w i = rw (name_no_variable w i, i) refl
+
+-- A word that is read as one of a term is a variable or a name.
+pub data IsWord : Word → Read → Type 0 where
+  a_variable : (w : Word) → is_variable w ≡ true → IsWord w (Variable w)
+  a_name : (w : Word) → is_name w ≡ true → IsWord w (Symbol w)
+
+word_by : (w : Word) (v n : Bool) → is_variable w ≡ v → is_name w ≡ n → (r : Read) → (if v then Some (Variable w) else (if n then Some (Symbol w) else None)) ≡ Some r → IsWord w r
+word_by w true n i j r e = let same : Variable w ≡ r = cc in subst (λ (q : Read). IsWord w q) same (a_variable w i)
+word_by w false true i j r e = let same : Symbol w ≡ r = cc in subst (λ (q : Read). IsWord w q) same (a_name w j)
+word_by w false false i j r e = cc
+
+pub word_is : (w : Word) (r : Read) → word_of w ≡ Some r → IsWord w r
+word_is w r e = word_by w (is_variable w) (is_name w) refl refl r e
+
+small : {w : Word} {r : Read} → IsWord w r → is_predicate w ≡ false
+small (a_variable w i) = variable_no_predicate w i
+small (a_name w i) = name_no_predicate w i
+
+-- It is no predicate.
+pub word_small : (w : Word) (r : Read) → word_of w ≡ Some r → is_predicate w ≡ false
+word_small w r e = small (word_is w r e)
 
 -- a word of each kind is an identifier
 

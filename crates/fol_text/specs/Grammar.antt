@@ -2,26 +2,29 @@
 use Rattle.std.specs.Prelude.{◌≡◌, ℕ, suc, true, List, [], ◌∷◌, ◌++◌}
 use Rattle.fol_core.specs.Word.{Word, is_predicate, is_variable, is_name}
 use Rattle.fol_core.specs.declared.sent.Term.{Term}
-use Rattle.fol_core.specs.declared.sent.Term.TheVariants.{Var, Name}
+use Rattle.fol_core.specs.declared.sent.Term.TheVariants.{Var, Name, App}
 use Rattle.fol_core.specs.declared.sent.Sent.{Sent}
 use Rattle.fol_core.specs.declared.sent.Sent.TheVariants.{Atom, Eq, Bottom, Not, And, Or, If, Iff, All, Ex}
 use Rattle.fol_text.specs.declared.token.Token.{Token}
 use Rattle.fol_text.specs.declared.token.Token.TheVariants.{NotSign, AndSign, OrSign, IfSign, IffSign, AllSign, ExistsSign, FalsumSign, Equals, Unequal, Open, Close, Comma, Identifier}
 
--- A term is spelled by the identifier that it is.
-pub data SpellsTerm : Token → Term → Type 0 where
-  variable : (x : Word) → is_variable x ≡ true → SpellsTerm (Identifier x) (Var x)
-  name : (n : Word) → is_name n ≡ true → SpellsTerm (Identifier n) (Name n)
+mutual
+  -- `SpellsTerm room ks t`: the tokens spell the term, and at no token are more than `room` parentheses of functions
+  -- pending, each from the opening one on until the closing one. A function's symbol is spelled as a name is.
+  pub data SpellsTerm : ℕ → List Token → Term → Type 0 where
+    variable : (room : ℕ) (x : Word) → is_variable x ≡ true → SpellsTerm room (Identifier x ∷ []) (Var x)
+    name : (room : ℕ) (n : Word) → is_name n ≡ true → SpellsTerm room (Identifier n ∷ []) (Name n)
+    function : (room : ℕ) (g : Word) (ks : List Token) (ts : List Term) → is_name g ≡ true → SpellsTerms room ks ts → SpellsTerm (suc room) (Identifier g ∷ Open ∷ ks ++ Close ∷ []) (App g ts)
 
--- One or more terms, with commas between them.
-pub data SpellsTerms : List Token → List Term → Type 0 where
-  last_term : (k : Token) (t : Term) → SpellsTerm k t → SpellsTerms (k ∷ []) (t ∷ [])
-  more_terms : (k : Token) (t : Term) (ks : List Token) (ts : List Term) → SpellsTerm k t → SpellsTerms ks ts → SpellsTerms (k ∷ Comma ∷ ks) (t ∷ ts)
+  -- One or more terms, with commas between them.
+  pub data SpellsTerms : ℕ → List Token → List Term → Type 0 where
+    last_term : (room : ℕ) (ks : List Token) (t : Term) → SpellsTerm room ks t → SpellsTerms room ks (t ∷ [])
+    more_terms : (room : ℕ) (ks js : List Token) (t : Term) (ts : List Term) → SpellsTerm room ks t → SpellsTerms room js ts → SpellsTerms room (ks ++ Comma ∷ js) (t ∷ ts)
 
 mutual
   -- `Spells room ks s`: the tokens spell the sentence, and at no token are more than `room` pending. Pending are the
-  -- parentheses of groups from the opening one on until the closing one, and each `~` and each quantifier until its part
-  -- is complete; an atom's own parenthesis is no group.
+  -- parentheses of groups and of functions from the opening one on until the closing one, and each `~` and each
+  -- quantifier until its part is complete; an atom's own parenthesis isn't counted.
   pub data Spells : ℕ → List Token → Sent → Type 0 where
     one_part : (room : ℕ) (ks : List Token) (s : Sent) → SpellsPart room ks s → Spells room ks s
     conjunction : (room : ℕ) (ks js : List Token) (s : Sent) (ss : List Sent) → SpellsPart room ks s → SpellsParts AndSign room js ss → Spells room (ks ++ AndSign ∷ js) (And (s ∷ ss))
@@ -37,9 +40,9 @@ mutual
   -- A part, which is what a connective joins and what `~` or a quantifier stands before.
   pub data SpellsPart : ℕ → List Token → Sent → Type 0 where
     letter : (room : ℕ) (p : Word) → is_predicate p ≡ true → SpellsPart room (Identifier p ∷ []) (Atom p [])
-    atom : (room : ℕ) (p : Word) (ks : List Token) (ts : List Term) → is_predicate p ≡ true → SpellsTerms ks ts → SpellsPart room (Identifier p ∷ Open ∷ ks ++ Close ∷ []) (Atom p ts)
-    equation : (room : ℕ) (k j : Token) (a b : Term) → SpellsTerm k a → SpellsTerm j b → SpellsPart room (k ∷ Equals ∷ j ∷ []) (Eq a b)
-    inequation : (room : ℕ) (k j : Token) (a b : Term) → SpellsTerm k a → SpellsTerm j b → SpellsPart room (k ∷ Unequal ∷ j ∷ []) (Not (Eq a b))
+    atom : (room : ℕ) (p : Word) (ks : List Token) (ts : List Term) → is_predicate p ≡ true → SpellsTerms room ks ts → SpellsPart room (Identifier p ∷ Open ∷ ks ++ Close ∷ []) (Atom p ts)
+    equation : (room : ℕ) (ks js : List Token) (a b : Term) → SpellsTerm room ks a → SpellsTerm room js b → SpellsPart room (ks ++ Equals ∷ js) (Eq a b)
+    inequation : (room : ℕ) (ks js : List Token) (a b : Term) → SpellsTerm room ks a → SpellsTerm room js b → SpellsPart room (ks ++ Unequal ∷ js) (Not (Eq a b))
     falsum : (room : ℕ) → SpellsPart room (FalsumSign ∷ []) Bottom
     negation : (room : ℕ) (ks : List Token) (s : Sent) → SpellsPart room ks s → SpellsPart (suc room) (NotSign ∷ ks) (Not s)
     universal : (room : ℕ) (x : Word) (ks : List Token) (s : Sent) → is_variable x ≡ true → SpellsPart room ks s → SpellsPart (suc room) (AllSign ∷ Identifier x ∷ ks) (All x s)

@@ -7,3 +7,4 @@ pub mod Printed
 pub mod Lexer
 pub mod Machine
 pub mod Bound
+pub mod Straight

@@ -1,9 +1,9 @@
 -- The reader as a machine: what it does at each token. This is how the code reads, and no definition of what a sentence
 -- is; that is the grammar, and the laws in proofs/ join the two.
-use Rattle.std.specs.Prelude.{◌≡◌, ◌⊎◌, ℕ, ◌-◌, nat_lt, List, [], ◌∷◌, ◌++◌, length, Option, Some, None, Result, Ok, Err, if◌then◌else◌}
+use Rattle.std.specs.Prelude.{◌≡◌, ◌⊎◌, ℕ, ◌+◌, ◌-◌, nat_lt, List, [], ◌∷◌, ◌++◌, length, Option, Some, None, Result, Ok, Err, if◌then◌else◌}
 use Rattle.fol_core.specs.Word.{Word, is_predicate, is_variable, is_name}
 use Rattle.fol_core.specs.declared.sent.Term.{Term}
-use Rattle.fol_core.specs.declared.sent.Term.TheVariants.{Var, Name}
+use Rattle.fol_core.specs.declared.sent.Term.TheVariants.{Var, Name, App}
 use Rattle.fol_core.specs.declared.sent.Sent.{Sent}
 use Rattle.fol_core.specs.declared.sent.Sent.TheVariants.{Atom, Eq, Bottom, Not, And, Or, If, Iff, All, Ex}
 use Rattle.fol_text.specs.declared.fault.ReadFault.{ReadFault}
@@ -19,9 +19,14 @@ use Rattle.fol_text.specs.declared.state.Prefix.TheVariants.{Negation, Quantifie
 use Rattle.fol_text.specs.declared.state.Relation.{Relation}
 use Rattle.fol_text.specs.declared.state.Relation.TheVariants.{Same, Different}
 use Rattle.fol_text.specs.declared.state.Begun.{Begun}
+use Rattle.fol_text.specs.declared.state.Read.{Read}
+use Rattle.fol_text.specs.declared.state.Read.TheVariants.{Variable, Symbol, Function}
+use Rattle.fol_text.specs.declared.state.Spot.{Spot}
+use Rattle.fol_text.specs.declared.state.Spot.TheVariants.{Argument, Left, Right}
+use Rattle.fol_text.specs.declared.state.Call.{Call}
 use Rattle.fol_text.specs.declared.state.Begun.TheVariants.{Nothing, Conjunction, Disjunction, Conditional, Biconditional}
 use Rattle.fol_text.specs.declared.state.Mode.{Mode}
-use Rattle.fol_text.specs.declared.state.Mode.TheVariants.{WantsPart, WantsVariable, HasPredicate, WantsArgument, HasArgument, HasLeft, WantsRight, HasPart}
+use Rattle.fol_text.specs.declared.state.Mode.TheVariants.{WantsPart, WantsVariable, HasPredicate, WantsTerm, HasTerm, HasPart}
 use Rattle.fol_text.specs.declared.state.Group.{Group}
 use Rattle.fol_text.specs.declared.state.State.{State}
 
@@ -151,18 +156,28 @@ abbrev pub after_part : Sent → Group → List Group → Token → Result State
 after_part s h o Close = close_group s h o
 after_part s h o k = joined h o (begun_by s h.begun k)
 
--- The term that an identifier is, where it is one.
-abbrev pub term_of : Word → Option Term
-term_of w = if is_variable w then Some (Var w) else (if is_name w then Some (Name w) else None)
+-- What is read of a term by an identifier, where it is one: a variable, or a name that may yet be a function's symbol.
+abbrev pub word_of : Word → Option Read
+word_of w = if is_variable w then Some (Variable w) else (if is_name w then Some (Symbol w) else None)
 
--- The mode behind a term, where there is one.
-abbrev pub with_term : Option Term → (Term → State) → Result State Refusal
-with_term None next = Err Unexpected
-with_term (Some t) next = Ok (next t)
+-- The term that is read, where nothing more belongs to it.
+abbrev pub read_term : Read → Term
+read_term (Variable x) = Var x
+read_term (Symbol n) = Name n
+read_term (Function t) = t
+
+-- The function with this symbol and these arguments, whose parenthesis is open.
+abbrev pub call_of : Word → List Term → Call
+call_of g ts = record { symbol = g; arguments = ts }
+
+-- The mode behind a word of a term, where there is one.
+abbrev pub with_word : Option Read → (Read → State) → Result State Refusal
+with_word None next = Err Unexpected
+with_word (Some r) next = Ok (next r)
 
 -- A part that an identifier begins is an atomic sentence or an equation.
 abbrev pub begin_word : Word → Group → List Group → Result State Refusal
-begin_word w h o = if is_predicate w then Ok (state (HasPredicate w) h o) else with_term (term_of w) (λ t. state (HasLeft t) h o)
+begin_word w h o = if is_predicate w then Ok (state (HasPredicate w) h o) else with_word (word_of w) (λ r. state (HasTerm Left [] r) h o)
 
 -- A part begins with an identifier, falsum, a prefix or an opening parenthesis.
 abbrev pub begin_part : Group → List Group → Token → Result State Refusal
@@ -181,55 +196,84 @@ take_variable q h o _ = Err Unexpected
 
 -- Behind a predicate stands its first argument's parenthesis; else it is a sentence letter, and a part.
 abbrev pub after_predicate : Word → Group → List Group → Token → Result State Refusal
-after_predicate p h o Open = Ok (state (WantsArgument p []) h o)
+after_predicate p h o Open = Ok (state (WantsTerm (Argument p []) []) h o)
 after_predicate p h o k = after_part (wrapped h.prefixes (Atom p [])) (group_of h.room [] h.begun) o k
-
--- An argument is a term.
-abbrev pub take_argument : Word → List Term → Group → List Group → Token → Result State Refusal
-take_argument p ts h o (Identifier w) = with_term (term_of w) (λ t. state (HasArgument p (ts ++ t ∷ [])) h o)
-take_argument p ts h o _ = Err Unexpected
-
--- Behind an argument stands a comma or the closing parenthesis.
-abbrev pub after_argument : Word → List Term → Group → List Group → Token → Result State Refusal
-after_argument p ts h o Comma = Ok (state (WantsArgument p ts) h o)
-after_argument p ts h o Close = Ok (finished (Atom p ts) h o)
-after_argument p ts h o _ = Err Unexpected
-
--- Behind the left term of an equation stands `=` or `#`.
-abbrev pub after_left : Term → Group → List Group → Token → Result State Refusal
-after_left a h o Equals = Ok (state (WantsRight a Same) h o)
-after_left a h o Unequal = Ok (state (WantsRight a Different) h o)
-after_left a h o _ = Err Unexpected
 
 -- The equation of two terms, or its negation.
 abbrev pub related : Term → Relation → Term → Sent
 related a Same b = Eq a b
 related a Different b = Not (Eq a b)
 
--- The right term completes the equation.
-abbrev pub take_right : Term → Relation → Group → List Group → Token → Result State Refusal
-take_right a r h o (Identifier w) = with_term (term_of w) (λ b. finished (related a r b) h o)
-take_right a r h o _ = Err Unexpected
+-- A term begins with an identifier.
+abbrev pub take_term : Spot → List Call → Group → List Group → Token → Result State Refusal
+take_term spot cs h o (Identifier w) = with_word (word_of w) (λ r. state (HasTerm spot cs r) h o)
+take_term spot cs h o _ = Err Unexpected
+
+-- A function's opening parenthesis needs some room.
+abbrev pub open_call : Word → Spot → List Call → Group → List Group → Result State Refusal
+open_call g spot cs h o = if nat_lt (length h.prefixes + length cs) h.room then Ok (state (WantsTerm spot (call_of g [] ∷ cs)) h o) else Err TooDeep
+
+-- Behind an argument of a function stands a comma or the closing parenthesis.
+abbrev pub in_call : Spot → Word → List Term → List Call → Term → Group → List Group → Token → Result State Refusal
+in_call spot g us cs t h o Comma = Ok (state (WantsTerm spot (call_of g (us ++ t ∷ []) ∷ cs)) h o)
+in_call spot g us cs t h o Close = Ok (state (HasTerm spot cs (Function (App g (us ++ t ∷ [])))) h o)
+in_call spot g us cs t h o _ = Err Unexpected
+
+-- Behind an argument of a predicate stands a comma or the closing parenthesis.
+abbrev pub after_argument : Word → List Term → Group → List Group → Token → Result State Refusal
+after_argument p ts h o Comma = Ok (state (WantsTerm (Argument p ts) []) h o)
+after_argument p ts h o Close = Ok (finished (Atom p ts) h o)
+after_argument p ts h o _ = Err Unexpected
+
+-- Behind the left term of an equation stands `=` or `#`.
+abbrev pub after_left : Term → Group → List Group → Token → Result State Refusal
+after_left a h o Equals = Ok (state (WantsTerm (Right a Same) []) h o)
+after_left a h o Unequal = Ok (state (WantsTerm (Right a Different) []) h o)
+after_left a h o _ = Err Unexpected
+
+-- Behind the right term the equation is a part.
+abbrev pub after_right : Sent → Group → List Group → Token → Result State Refusal
+after_right s h o k = after_part (wrapped h.prefixes s) (group_of h.room [] h.begun) o k
+
+-- Behind a term that stands in no function.
+abbrev pub at_spot : Spot → Term → Group → List Group → Token → Result State Refusal
+at_spot (Argument p ts) t h o k = after_argument p (ts ++ t ∷ []) h o k
+at_spot Left t h o k = after_left t h o k
+at_spot (Right a r) t h o k = after_right (related a r t) h o k
+
+-- Behind a complete term.
+abbrev pub behind_term : Spot → List Call → Term → Group → List Group → Token → Result State Refusal
+behind_term spot [] t h o k = at_spot spot t h o k
+behind_term spot (c ∷ cs) t h o k = in_call spot c.symbol c.arguments cs t h o k
+
+-- Behind a term, which is a function's symbol where a parenthesis opens behind a name.
+abbrev pub after_term : Spot → List Call → Read → Group → List Group → Token → Result State Refusal
+after_term spot cs (Symbol g) h o Open = open_call g spot cs h o
+after_term spot cs r h o k = behind_term spot cs (read_term r) h o k
 
 -- One token, by the mode.
 abbrev pub step_in : Mode → Group → List Group → Token → Result State Refusal
 step_in WantsPart h o k = begin_part h o k
 step_in (WantsVariable q) h o k = take_variable q h o k
 step_in (HasPredicate p) h o k = after_predicate p h o k
-step_in (WantsArgument p ts) h o k = take_argument p ts h o k
-step_in (HasArgument p ts) h o k = after_argument p ts h o k
-step_in (HasLeft a) h o k = after_left a h o k
-step_in (WantsRight a r) h o k = take_right a r h o k
+step_in (WantsTerm spot cs) h o k = take_term spot cs h o k
+step_in (HasTerm spot cs r) h o k = after_term spot cs r h o k
 step_in (HasPart s) h o k = after_part s h o k
 
 -- The state after one more token, where some sentence goes on so.
 abbrev pub step : State → Token → Result State Refusal
 step st k = step_in st.mode st.here st.outer k
 
+-- The text ends behind a term: it is complete where the term is the right one of an equation.
+abbrev pub ended_term : Spot → List Call → Term → Group → Result Sent Refusal
+ended_term (Right a r) [] t h = Ok (whole h.begun (wrapped h.prefixes (related a r t)))
+ended_term _ _ t h = Err Unexpected
+
 -- Outside all groups a part ends the sentence.
 abbrev pub ended_in : Mode → Group → List Group → Result Sent Refusal
 ended_in (HasPart s) h [] = Ok (whole h.begun s)
 ended_in (HasPredicate p) h [] = Ok (whole h.begun (wrapped h.prefixes (Atom p [])))
+ended_in (HasTerm spot cs r) h [] = ended_term spot cs (read_term r) h
 ended_in _ h _ = Err Unexpected
 
 -- The sentence, where the text ends here.

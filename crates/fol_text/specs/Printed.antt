@@ -2,16 +2,13 @@
 use Rattle.std.specs.Prelude.{ℕ, Bool, true, false, List, [], ◌∷◌, ◌++◌, map}
 use Rattle.fol_core.specs.Word.{Word}
 use Rattle.fol_core.specs.declared.sent.Term.{Term}
-use Rattle.fol_core.specs.declared.sent.Term.TheVariants.{Var, Name}
+use Rattle.fol_core.specs.declared.sent.Term.TheOpen.{Term-F}
+use Rattle.fol_core.specs.declared.sent.Term.TheOpen as t
+use Rattle.fol_core.specs.declared.sent.Term.TheFolds.{fold-Term}
 use Rattle.fol_core.specs.declared.sent.Sent.{Sent}
 use Rattle.fol_core.specs.declared.sent.Sent.TheOpen.{Sent-F}
 use Rattle.fol_core.specs.declared.sent.Sent.TheOpen as f
 use Rattle.fol_core.specs.declared.sent.Sent.TheFolds.{fold-Sent}
-
--- A term is printed as the identifier that it is.
-abbrev pub term_text : Term → List ℕ
-term_text (Var x) = x
-term_text (Name n) = n
 
 -- The texts in their order, with the separator between them.
 abbrev pub separated : List ℕ → List (List ℕ) → List ℕ
@@ -22,6 +19,16 @@ separated by (t ∷ u ∷ ts) = t ++ by ++ separated by (u ∷ ts)
 -- The text in parentheses.
 abbrev pub in_parentheses : List ℕ → List ℕ
 in_parentheses t = 40 ∷ t ++ 41 ∷ []
+
+-- One form of term: its word, and behind a function's symbol its arguments in parentheses and commas between them.
+abbrev pub term_step : Term-F (List ℕ) → List ℕ
+term_step (t.Var x) = x
+term_step (t.Name n) = n
+term_step (t.App g us) = g ++ in_parentheses (separated (44 ∷ []) us)
+
+-- The text of a term, without blanks.
+abbrev pub term_text : Term → List ℕ
+term_text = fold-Term (List ℕ) term_step
 
 -- A predicate alone, or with its terms in parentheses and commas between them.
 abbrev pub atom_text : Word → List Term → List ℕ

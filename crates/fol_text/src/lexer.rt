@@ -69,7 +69,7 @@ pub(crate) fn first_token(alloc: Global, text: &[u8]) -> Result<Option<(Token, &
 }
 
 /// The sign at the front of the text, and the bytes after it.
-fn first_sign(text: &[u8]) -> Option<(Token, &[u8])>
+pub(crate) fn first_sign(text: &[u8]) -> Option<(Token, &[u8])>
     ensures value { MatchOption result (first_sign_of text.now ≡ None) (λ f. first_sign_of text.now ≡ Some (f.0, f.1.now)) }
 {
     match text {
@@ -153,7 +153,7 @@ fn symbol(second: u8, third: u8) -> Option<Token>
 }
 
 /// How many bytes at the front of the text may stand in an identifier.
-fn word_len(text: &[u8]) -> usize
+pub(crate) fn word_len(text: &[u8]) -> usize
     ensures value { result ≡ prefix_len continues text.now }
 {
     text.iter().take_while(|byte| goes_on(**byte)).count()

@@ -1,10 +1,10 @@
 ghost use Rattle.std.specs.Prelude.{◌≡◌, ◌++◌, ◌∷◌, [], map, length, IfOk, OnOk, Some, None, false};
-ghost use Rattle.std.specs.List.{list_any};
+ghost use Rattle.std.specs.List.{list_any, list_all};
 ghost use Rattle.std.specs.Str.{bytes_eq};
-ghost use Rattle.fol_core.specs.Blocks.{fits as fitting_of, of_one, of_two, of_three};
-ghost use Rattle.fol_core.specs.Closed.{is_bound as is_bound_of, is_among};
+ghost use Rattle.fol_core.specs.Blocks.{has_places as has_places_of, fits as fitting_of, of_one, of_two, of_three};
+ghost use Rattle.fol_core.specs.Closed.{is_among};
 ghost use Rattle.fol_text.specs.Bound.{words};
-ghost use Rattle.fol_text.specs.Occurrences.{first_false as first_false_of, fitting as fitting_marks, boundness as bound_marks, predicate_places as predicate_places_of, term_places as term_places_of, joined, names_predicate as predicate_token, names_term as term_token, is_quantifier as quantifier_token};
+ghost use Rattle.fol_text.specs.Occurrences.{first_false as first_false_of, fitting as fitting_marks, boundness as bound_marks, word_marks as words_of_term, predicate_places as predicate_places_of, term_places as term_places_of, joined, names_predicate as predicate_token, names_term as term_token, is_quantifier as quantifier_token};
 
 use crate::token::{Placed, Token};
 use crate::word::is_predicate;
@@ -120,6 +120,33 @@ fn add_all_fitting(parts: &[Sent], marks: &mut Marks) -> Result<(), AllocError>
     Ok(())
 }
 
+/// Whether each block predicate of the sentence has its number of places.
+#[cycle(places)]
+#[tactic(auto, using(fol_core::proofs::Forms::places_and, fol_core::proofs::Forms::places_or))]
+pub(crate) fn has_places(s: &Sent) -> bool
+    ensures value { result ≡ has_places_of s.now }
+{
+    match s {
+        Sent::Atom(predicate, terms) => fits(predicate.as_slice(), terms.len()),
+        Sent::Eq(_, _) | Sent::Bottom => true,
+        Sent::Not(a) | Sent::All(_, a) | Sent::Ex(_, a) => has_places(a.get()),
+        Sent::And(parts) | Sent::Or(parts) => have_places(parts.as_slice()),
+        Sent::If(a, b) | Sent::Iff(a, b) => has_places(a.get()) && has_places(b.get()),
+    }
+}
+
+#[cycle(places)]
+fn have_places(parts: &[Sent]) -> bool
+    ensures value { result ≡ list_all has_places_of parts.now }
+{
+    for part in parts {
+        if !has_places(part) {
+            return false;
+        }
+    }
+    true
+}
+
 /// For each term of the sentence, whether it is a name or a bound variable.
 pub(crate) fn boundness(alloc: Global, s: &Sent) -> Result<Marks, AllocError>
     ensures value { IfOk result (λ marks. marks ≡ bound_marks s.now []) }
@@ -143,8 +170,8 @@ fn add_bound(s: &Sent, bound: &Bound<'_>, marks: &mut Marks) -> Result<(), Alloc
     match s {
         Sent::Atom(_, terms) => add_bound_terms(terms.as_slice(), bound, marks),
         Sent::Eq(a, b) => {
-            marks.add(is_bound(a, bound))?;
-            marks.add(is_bound(b, bound))
+            add_words(a, bound, marks)?;
+            add_words(b, bound, marks)
         }
         Sent::Bottom => Ok(()),
         Sent::Not(a) => add_bound(a.get(), bound, marks),
@@ -169,22 +196,28 @@ fn add_all_bound(parts: &[Sent], bound: &Bound<'_>, marks: &mut Marks) -> Result
     Ok(())
 }
 
+#[cycle(words)]
 fn add_bound_terms(terms: &[Term], bound: &Bound<'_>, marks: &mut Marks) -> Result<(), AllocError>
-    ensures value { OnOk result (marks.new ≡ marks.old ++ map (is_bound_of (words bound.now)) terms.now) }
+    ensures value { OnOk result (marks.new ≡ marks.old ++ joined (map (words_of_term (words bound.now)) terms.now)) }
 {
     for term in terms {
-        marks.add(is_bound(term, bound))?;
+        add_words(term, bound, marks)?;
     }
     Ok(())
 }
 
-/// Whether the term is a name or a bound variable.
-fn is_bound(term: &Term, bound: &Bound<'_>) -> bool
-    ensures value { result ≡ is_bound_of (words bound.now) term.now }
+/// For each word of the term, whether it is no variable, or one that is bound.
+#[cycle(words)]
+fn add_words(term: &Term, bound: &Bound<'_>, marks: &mut Marks) -> Result<(), AllocError>
+    ensures value { OnOk result (marks.new ≡ marks.old ++ words_of_term (words bound.now) term.now) }
 {
     match term {
-        Term::Var(x) => binds(bound, x),
-        Term::Name(_) => true,
+        Term::Var(x) => marks.add(binds(bound, x)),
+        Term::Name(_) => marks.add(true),
+        Term::App(_, args) => {
+            marks.add(true)?;
+            add_bound_terms(args.as_slice(), bound, marks)
+        }
     }
 }
 
@@ -201,9 +234,9 @@ fn binds(bound: &Bound<'_>, x: &Ident) -> bool
 fn fits(predicate: &[u8], count: usize) -> bool
     ensures value { result ≡ fitting_of predicate.now count }
 {
-    (!is_of_one(predicate) || count == 1)
-        && (!is_of_two(predicate) || count == 2)
-        && (!is_of_three(predicate) || count == 3)
+    (count == 1 || !is_of_one(predicate))
+        && (count == 2 || !is_of_two(predicate))
+        && (count == 3 || !is_of_three(predicate))
 }
 
 /// Whether it is a predicate of one block.

@@ -139,6 +139,7 @@ fn add_atom(predicate: &Ident, terms: &[Term], text: &mut Bytes) -> Result<(), A
 }
 
 /// Puts the terms last, with commas between them.
+#[cycle(terms)]
 fn add_terms(terms: &[Term], text: &mut Bytes) -> Result<(), AllocError>
     ensures value { OnOk result (text.new ≡ text.old ++ separated (44 ∷ []) (map term_text terms.now)) }
 {
@@ -146,26 +147,33 @@ fn add_terms(terms: &[Term], text: &mut Bytes) -> Result<(), AllocError>
     for term in terms {
         separate(is_first, b",", text)?;
         is_first = false;
-        text.extend(text_of(term))?;
+        add_term(term, text)?;
     }
     Ok(())
+}
+
+/// Puts the text of the term last.
+#[cycle(terms)]
+fn add_term(term: &Term, text: &mut Bytes) -> Result<(), AllocError>
+    ensures value { OnOk result (text.new ≡ text.old ++ term_text term.now) }
+{
+    match term {
+        Term::Var(x) => text.extend(x.as_slice()),
+        Term::Name(n) => text.extend(n.as_slice()),
+        Term::App(symbol, args) => {
+            text.extend(symbol.as_slice())?;
+            text.extend(b"(")?;
+            add_terms(args.as_slice(), text)?;
+            text.extend(b")")
+        }
+    }
 }
 
 /// Puts an equation or a denied one last.
 fn add_equation(a: &Term, sign: &[u8], b: &Term, text: &mut Bytes) -> Result<(), AllocError>
     ensures value { OnOk result (text.new ≡ text.old ++ term_text a.now ++ sign.now ++ term_text b.now) }
 {
-    text.extend(text_of(a))?;
+    add_term(a, text)?;
     text.extend(sign)?;
-    text.extend(text_of(b))
-}
-
-/// The bytes of a term.
-fn text_of(term: &Term) -> &[u8]
-    ensures value { result.now ≡ term_text term.now }
-{
-    match term {
-        Term::Var(x) => x.as_slice(),
-        Term::Name(n) => n.as_slice(),
-    }
+    add_term(b, text)
 }

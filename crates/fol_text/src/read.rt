@@ -1,6 +1,9 @@
-ghost use Rattle.std.specs.Prelude.{◌≡◌, ◌<◌, ◌⊎◌, ℕ, List, [], length, false, Ok, Err, IfOk, IfErr};
+ghost use Rattle.std.specs.Prelude.{◌≡◌, ◌<◌, ◌⊎◌, ℕ, List, [], length, true, false, Ok, Err, IfOk, IfErr, IfSome, IsTrue, ◌≤◌};
+ghost use Rattle.texts.specs.Blanks.{after_blanks};
 ghost use Rattle.fol_core.specs.declared.sent.Sent.{Sent as Sentence};
 ghost use Rattle.fol_core.specs.Size.{within_limits};
+ghost use Rattle.fol_core.specs.Formed.{formed};
+ghost use Rattle.fol_core.specs.Statements.{statement};
 ghost use Rattle.fol_text.specs.declared.fault.ReadFault.{ReadFault as Fault};
 ghost use Rattle.fol_text.specs.Tokens.{tokens_of};
 ghost use Rattle.fol_text.specs.Grammar.{Spells};
@@ -9,13 +12,15 @@ ghost use Rattle.fol_text.specs.Refusals.{IsRefused, IsStopped, IsUnfit, limit_f
 ghost use Rattle.fol_text.specs.Occurrences.{first_false as first_false_of, fitting as fitting_of, boundness as boundness_of, predicate_places as predicate_places_of, term_places as term_places_of};
 ghost use Rattle.fol_text.specs.Machine.{GivesAt, LeavesAt, step as step_of, ended as ended_of};
 
-use crate::fault::ReadFault;
+use crate::fault::{ReadFault, Refusal};
 use crate::lexer::tokens;
-use crate::marks::{boundness, first_false, fitting, predicate_places, term_places};
-use crate::state::State;
+use crate::marks::{boundness, first_false, fitting, has_places, predicate_places, term_places};
+use crate::state::{MOST_PENDING, State};
+use crate::straight::sentence;
 use crate::token::Placed;
-use fol_core::{Sent, SentFault, within};
+use fol_core::{Sent, SentFault, is_closed, within};
 use std::alloc::{AllocError, Global};
+use texts::trim_start;
 
 /// How many bytes a sentence's text may have.
 const MOST_BYTES: usize = 4000;
@@ -42,10 +47,51 @@ pub fn read_sentence(alloc: Global, text: &[u8]) -> Result<Sent, ReadFault>
     if text.len() > MOST_BYTES {
         return Err(ReadFault::TooLong(text.len() as u32));
     }
+    if let Some(found) = read_straight(alloc, text)? {
+        return Ok(found);
+    }
     let tokens = tokens(alloc, text)?;
     let sentence = spelled(alloc, tokens.as_slice(), text.len() as u32)?;
     fit(alloc, tokens.as_slice(), &sentence)?;
     Ok(sentence)
+}
+
+/// The sentence that the text spells, where nothing is wrong with it. None says nothing of the text.
+#[tactic(auto, using(crate::proofs::Whole::readable))]
+fn read_straight(alloc: Global, text: &[u8]) -> Result<Option<Sent>, AllocError>
+    requires { length text.now ≤ 4000 }
+    ensures read { IfOk result (λ found. IfSome found (λ s. IsReadable text.now s)) }
+{
+    match sentence(alloc, MOST_PENDING, text) {
+        Ok((found, rest)) => {
+            if is_spent(rest) && is_fit(&found) {
+                return Ok(Some(found));
+            }
+            Ok(None)
+        }
+        Err(Refusal::Memory) => Err(AllocError),
+        Err(_) => Ok(None),
+    }
+}
+
+/// Whether nothing but blanks is left.
+fn is_spent(rest: &[u8]) -> bool
+    ensures value { IsTrue result → after_blanks rest.now ≡ [] }
+{
+    match trim_start(rest) {
+        [] => true,
+        _ => false,
+    }
+}
+
+/// Whether the sentence is within the limits, its block predicates have their places, and its variables are bound.
+fn is_fit(sentence: &Sent) -> bool
+    ensures value { IsTrue result → IsFit sentence.now }
+{
+    match within(sentence) {
+        Ok(()) => has_places(sentence) && is_closed(sentence),
+        Err(_) => false,
+    }
 }
 
 /// A text spells at most one sentence by the grammar.
@@ -58,6 +104,12 @@ pub fn refused_once()
     ensures some { (text : List ℕ) → ((s : Sentence) × IsReadable text s) ⊎ ((fault : Fault) × IsRefused text fault) }
     ensures once { (text : List ℕ) → (fault : Fault) → (other : Fault) → IsRefused text fault → IsRefused text other → fault ≡ other }
     ensures readable { (text : List ℕ) → (s : Sentence) → (fault : Fault) → IsReadable text s → IsRefused text fault → ⊥ }
+{}
+
+/// What is readable is well formed, and it is a statement.
+pub fn readable_sentences()
+    ensures formed { (text : List ℕ) → (s : Sentence) → IsReadable text s → formed s ≡ true }
+    ensures statement { (text : List ℕ) → (s : Sentence) → IsReadable text s → IsTrue (statement s) }
 {}
 
 /// The sentence that the tokens spell by the grammar, or the first refusal of a token or of the end, whose place is given.

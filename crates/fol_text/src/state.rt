@@ -6,7 +6,7 @@ use fol_core::{Ident, Sent, Sents, Term, Terms};
 use std::alloc::Global;
 
 /// How many parentheses, `~` and quantifiers may be pending at a token.
-const MOST_PENDING: usize = 120;
+pub(crate) const MOST_PENDING: usize = 120;
 
 /// Which quantifier.
 #[derive(Clone, Copy, Debug)]
@@ -45,6 +45,34 @@ pub(crate) enum Begun {
     Biconditional(Sent),
 }
 
+/// What is read of a term.
+#[derive(Debug, Drop)]
+pub(crate) enum Read {
+    Variable(Ident),
+    /// A name, or a function's symbol where its parenthesis comes.
+    Symbol(Ident),
+    /// A function with its arguments.
+    Function(Term),
+}
+
+/// Where a term stands.
+#[derive(Debug, Drop)]
+pub(crate) enum Spot {
+    /// A predicate with the arguments before it.
+    Argument(Ident, Terms),
+    /// On the left of an equation.
+    Left,
+    /// On the right of one, with the left term.
+    Right(Term, Relation),
+}
+
+/// A function whose parenthesis is open, with its arguments so far.
+#[derive(Debug, Drop)]
+pub(crate) struct Call {
+    pub(crate) symbol: Ident,
+    pub(crate) arguments: Terms,
+}
+
 /// What is there of the part that is being read.
 #[derive(Debug, Drop)]
 pub(crate) enum Mode {
@@ -54,14 +82,10 @@ pub(crate) enum Mode {
     WantsVariable(Quantifier),
     /// A predicate, which is a whole part unless arguments follow.
     HasPredicate(Ident),
-    /// A predicate with the arguments before an argument that has to come.
-    WantsArgument(Ident, Terms),
-    /// A predicate with its arguments so far.
-    HasArgument(Ident, Terms),
-    /// The left term of an equation.
-    HasLeft(Term),
-    /// An equation whose right term has to come.
-    WantsRight(Term, Relation),
+    /// A term has to come at this spot, in these functions, the innermost on top.
+    WantsTerm(Spot, Stack<Call>),
+    /// A term stands there.
+    HasTerm(Spot, Stack<Call>, Read),
     /// The whole part, with its prefixes.
     HasPart(Sent),
 }

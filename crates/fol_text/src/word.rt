@@ -1,8 +1,9 @@
 ghost use Rattle.std.specs.Prelude.{◌≡◌};
 ghost use Rattle.std.specs.List.{list_all};
 ghost use Rattle.fol_core.specs.Word.{is_digit as digit, is_predicate as predicate, is_variable as variable, is_name as name, begins_with_capital as capital, spells_variable as spelled_as_variable};
-ghost use Rattle.fol_text.specs.Machine.{term_of as term};
+ghost use Rattle.fol_text.specs.Machine.{word_of as read_of, read_term as read};
 
+use crate::state::Read;
 use fol_core::{Ident, Term};
 
 /// Whether the identifier is a predicate.
@@ -23,22 +24,33 @@ pub(crate) fn is_variable(word: &Ident) -> bool
 
 /// Whether the identifier is a name, which is no variable.
 #[tactic(auto, unfolding(fol_core::specs::Word::is_name))]
-fn is_name(word: &Ident) -> bool
+pub(crate) fn is_name(word: &Ident) -> bool
     ensures value { result ≡ name word.now }
 {
     !begins_with_capital(word.as_slice()) && !spells_variable(word.as_slice())
 }
 
-/// The term that the identifier is, where it is one.
-pub(crate) fn term_of(word: Ident) -> Option<Term>
-    ensures value { result ≡ term word }
+/// What the identifier is of a term, where it is a word of one.
+pub(crate) fn word_of(word: Ident) -> Option<Read>
+    ensures value { result ≡ read_of word }
 {
     if is_variable(&word) {
-        Some(Term::Var(word))
+        Some(Read::Variable(word))
     } else if is_name(&word) {
-        Some(Term::Name(word))
+        Some(Read::Symbol(word))
     } else {
         None
+    }
+}
+
+/// The term that is read, where nothing more belongs to it.
+pub(crate) fn read_term(term: Read) -> Term
+    ensures value { result ≡ read term }
+{
+    match term {
+        Read::Variable(x) => Term::Var(x),
+        Read::Symbol(n) => Term::Name(n),
+        Read::Function(whole) => whole,
     }
 }
 

@@ -8,3 +8,4 @@ pub mod Games
 pub mod Refusals
 pub mod Replays
 pub mod ReplayLaws
+pub mod PlayLaws

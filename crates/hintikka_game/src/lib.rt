@@ -6,8 +6,6 @@ mod laws;
 mod position;
 mod replaying;
 mod rules;
-#[cfg(test)]
-mod tests;
 mod turn;
 
 pub use game::{Game, GameFault};

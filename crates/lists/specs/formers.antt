@@ -1,2 +1,3 @@
 pub mod listed
+pub mod nonempty
 pub mod several

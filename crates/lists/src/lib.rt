@@ -1,11 +1,11 @@
-//! Lists that contracts see as the list of their items: of any number of items, and of at least two.
+//! Lists that contracts see as the list of their items: of any number of items, of at least one, and of at least two.
 #![tactic(auto)]
 
 mod bytes;
 mod listed;
+mod nonempty;
 mod several;
-#[cfg(test)]
-mod tests;
 
 pub use listed::Listed;
+pub use nonempty::Nonempty;
 pub use several::Several;

@@ -4,7 +4,7 @@ use Rattle.std.specs.Prelude.{◌≡◌, IfSome}
 use Rattle.std.specs.List.{AllByRecursion}
 use Rattle.fol_core.specs.declared.sent.Sent.{Sent}
 use Rattle.fol_core.specs.Word.{Word}
-use Rattle.fol_core.specs.Closed.{closed}
+use Rattle.fol_core.specs.Statements.{statement}
 use Rattle.fol_core.specs.Subst.{occurs}
 use Rattle.deriv_laws.specs.declared.rule.Rule.{Rule}
 use Rattle.deriv_laws.specs.Eigen.{AreWithout}
@@ -19,12 +19,13 @@ use Rattle.nested_proofs.specs.Fresh.{IsFresh, HasFreshBox}
 use Rattle.nested_proofs.specs.Justified.{Consequence}
 
 -- A closed subproof leads from some of what is open, in which its boxed constant doesn't occur, and its
--- own assumption, to its conclusion.
+-- own assumption, which is a statement, to its conclusion.
 pub record Leads (gs : List Sent) (b : Subproof) : Type 0 where
   pub from : List Sent
   pub within : AllByRecursion (λ s. Contains gs s) from
   pub free : IfSome b.boxed (λ c. AreWithout c from)
   pub derived : IfSome b.conclusion (λ q. Der (prepend b.hypothesis from) q)
+  pub stated : IfSome b.hypothesis (λ p. IsTrue (statement p))
 
 -- The sentence may be cited under some number.
 abbrev pub IsCitable : List Numbered → Sent → Type 0
@@ -48,9 +49,9 @@ good_step base a k s g h = record { sentences = (h, g.sentences); subproofs = g.
 
 -- more is open
 leads_more : (gs : List Sent) (p : Sent) (b : Subproof) → Leads gs b → Leads (p ∷ gs) b
-leads_more gs p b l = record { from = l.from; within = all_turn (λ s. Contains gs s) (λ s. Contains (p ∷ gs) s) (λ s c. contains_there p s gs c) l.from l.within; free = l.free; derived = l.derived }
+leads_more gs p b l = record { from = l.from; within = all_turn (λ s. Contains gs s) (λ s. Contains (p ∷ gs) s) (λ s c. contains_there p s gs c) l.from l.within; free = l.free; derived = l.derived; stated = l.stated }
 
-pub good_inside : (base : List Sent) (a : Around) (k : ℕ) (o : Opening) → Good base a → IfSome (assumption_of o) (λ p. IsTrue (closed p)) → Good base (inside k o a)
+pub good_inside : (base : List Sent) (a : Around) (k : ℕ) (o : Opening) → Good base a → IfSome (assumption_of o) (λ p. IsTrue (statement p)) → Good base (inside k o a)
 good_inside base a k (Boxes c) g h = record { sentences = g.sentences; subproofs = g.subproofs; citable = g.citable }
 good_inside base a k (Assumes b p) g h =
     let gs : List Sent = a.assumed ++ base in
@@ -64,7 +65,7 @@ good_inside base a k (Assumes b p) g h =
 pub record Base (con : Consequence) (premises base : List Sent) : Type 0 where
   pub has : (x : Sent) → Contains premises x → Contains base x
   pub free : (c : Word) → AreWithout c premises → AreWithout c base
-  pub consequence : (hs : List Sent) (rule : Rule) (ps : List Sent) (s : Sent) → AllByRecursion (λ p. Der (hs ++ base) p) ps → IsTrue (closed s) → con rule ps s → Der (hs ++ base) s
+  pub consequence : (hs : List Sent) (rule : Rule) (ps : List Sent) (s : Sent) → AllByRecursion (λ p. Der (hs ++ base) p) ps → IsTrue (statement s) → con rule ps s → Der (hs ++ base) s
 
 -- A fresh constant occurs in nothing that is open: each open assumption may be cited.
 fresh_free : (con : Consequence) (premises base : List Sent) (t : Base con premises base) (a : Around) (c : Word) → Good base a → IsFresh premises a c → AreWithout c (a.assumed ++ base)
@@ -77,10 +78,10 @@ box_free : (con : Consequence) (premises base : List Sent) (t : Base con premise
 box_free con premises base t a None g h = tt
 box_free con premises base t a (Some c) g h = fresh_free con premises base t a c g h
 
-pub good_after : (con : Consequence) (premises base : List Sent) (t : Base con premises base) (a : Around) (k : ℕ) (o : Opening) (body : Items) → Good base a → HasFreshBox premises a (box_of o) →
+pub good_after : (con : Consequence) (premises base : List Sent) (t : Base con premises base) (a : Around) (k : ℕ) (o : Opening) (body : Items) → Good base a → HasFreshBox premises a (box_of o) → IfSome (assumption_of o) (λ p. IsTrue (statement p)) →
     IfSome (last_of (assumption_of o) body) (λ q. Der (prepend (assumption_of o) (a.assumed ++ base)) q) → Good base (after_sub k o body a)
-good_after con premises base t a k o body g f h = record {
+good_after con premises base t a k o body g f e h = record {
   sentences = g.sentences;
-  subproofs = (record { from = a.assumed ++ base; within = all_given (λ s. Contains (a.assumed ++ base) s) (a.assumed ++ base) (λ s c. c); free = box_free con premises base t a (box_of o) g f; derived = h }, g.subproofs);
+  subproofs = (record { from = a.assumed ++ base; within = all_given (λ s. Contains (a.assumed ++ base) s) (a.assumed ++ base) (λ s c. c); free = box_free con premises base t a (box_of o) g f; derived = h; stated = e }, g.subproofs);
   citable = g.citable;
 }

@@ -1,7 +1,7 @@
 -- Justified lines: what soundness needs of the tests.
 use Rattle.std.specs.Prelude.{IsTrue, List, Contains, Option, Some, None, IfSome}
 use Rattle.fol_core.specs.declared.sent.Sent.{Sent}
-use Rattle.fol_core.specs.Closed.{closed}
+use Rattle.fol_core.specs.Statements.{statement}
 use Rattle.deriv_laws.specs.declared.rule.Rule.{Rule}
 use Rattle.deriv_laws.specs.declared.rule.Rule.TheVariants as r
 use Rattle.deriv_laws.specs.declared.line.FlatLine.{FlatLine}
@@ -32,6 +32,6 @@ IsJustifiedBy con premises a line rule None = ⊥
 abbrev pub IsJustified : Consequence → List Sent → Placed → Type 0
 IsJustified con premises x = IsJustifiedBy con premises x.around x.line x.line.rule x.line.sentence
 
--- The line's sentence, where it has one, is closed.
-abbrev pub HasClosed : Placed → Type 0
-HasClosed x = IfSome x.line.sentence (λ s. IsTrue (closed s))
+-- The line's sentence, where it has one, is a statement.
+abbrev pub HasStatement : Placed → Type 0
+HasStatement x = IfSome x.line.sentence (λ s. IsTrue (statement s))

@@ -3,10 +3,11 @@ use Rattle.std.specs.Prelude.{◌≡◌, ℕ, zero, suc, ◌+◌, ◌<◌, false
 use Rattle.std.specs.List.{AllByRecursion}
 use Rattle.fol_core.specs.declared.sent.Sent.{Sent}
 use Rattle.fol_core.specs.declared.sent.Sent.TheVariants.{Eq, Bottom, Not, And, Or, If, Iff, All, Ex}
-use Rattle.fol_core.specs.declared.sent.Term.TheVariants.{Name}
+use Rattle.fol_core.specs.declared.sent.Term.{Term}
 use Rattle.fol_core.specs.Word.{Word}
 use Rattle.fol_core.specs.Alike.{repl}
-use Rattle.fol_core.specs.Subst.{occurs, subst_name}
+use Rattle.fol_core.specs.Statements.{ground}
+use Rattle.fol_core.specs.Subst.{occurs, subst_name, subst_closed_term}
 use Rattle.deriv_laws.specs.declared.rule.Rule.{Rule}
 use Rattle.deriv_laws.specs.declared.rule.Rule.TheVariants as r
 use Rattle.nested_proofs.specs.Scope.{Subproof}
@@ -20,28 +21,31 @@ pub record Goes (b : Subproof) (p q : Sent) : Type 0 where
 abbrev pub IffFrom : Sent → Sent → Sent → Type 0
 IffFrom e p s = (e ≡ Iff p s) ⊎ (e ≡ Iff s p)
 
--- The sentence e is an equation between names, and s is p with some occurrences of one of them replaced by the other.
+-- The sentence e is an equation, and s is p with some occurrences of one of its terms replaced by the other. Where e is
+-- a statement, both terms are ground.
 pub record EqFrom (e p s : Sent) : Type 0 where
-  pub a : Word
-  pub b : Word
-  pub equation : e ≡ Eq (Name a) (Name b)
+  pub a : Term
+  pub b : Term
+  pub equation : e ≡ Eq a b
   pub replaced : IsTrue (repl a b p s) ⊎ IsTrue (repl b a p s)
 
--- The sentence q is an instance of the universal sentence s by a name.
+-- The sentence q is an instance of the universal sentence s by a ground term.
 pub record AllInstance (s q : Sent) : Type 0 where
   pub x : Word
   pub p : Sent
-  pub n : Word
+  pub a : Term
+  pub is_ground : IsTrue (ground a)
   pub whole : s ≡ All x p
-  pub instance : q ≡ subst_name x n p
+  pub instance : q ≡ subst_closed_term x a p
 
--- The sentence q is an instance of the existential sentence s by a name.
+-- The sentence q is an instance of the existential sentence s by a ground term.
 pub record ExInstance (s q : Sent) : Type 0 where
   pub x : Word
   pub p : Sent
-  pub n : Word
+  pub a : Term
+  pub is_ground : IsTrue (ground a)
   pub whole : s ≡ Ex x p
-  pub instance : q ≡ subst_name x n p
+  pub instance : q ≡ subst_closed_term x a p
 
 -- So many instances in a row lead from s to q.
 abbrev pub InRow : (Sent → Sent → Type 0) → ℕ → Sent → Sent → Type 0
@@ -88,9 +92,9 @@ Follows r.IfElim (p ∷ q ∷ []) [] s = (p ≡ If q s) ⊎ (q ≡ If p s)
 Follows r.IffIntro [] (b ∷ c ∷ []) s = (p : Sent) × (q : Sent) × (s ≡ Iff p q) × ((Goes b p q × Goes c q p) ⊎ (Goes b q p × Goes c p q))
 -- the other side of a biconditional one side of which is cited
 Follows r.IffElim (p ∷ q ∷ []) [] s = IffFrom p q s ⊎ IffFrom q p s
--- that a name is equal to itself
-Follows r.EqIntro [] [] s = (n : Word) × (s ≡ Eq (Name n) (Name n))
--- a cited sentence, with some occurrences of a name replaced by one that is equal to it
+-- that a term is equal to itself; where the sentence is a statement, the term is ground
+Follows r.EqIntro [] [] s = (a : Term) × (s ≡ Eq a a)
+-- a cited sentence, with some occurrences of a term replaced by one that is equal to it
 Follows r.EqElim (p ∷ q ∷ []) [] s = EqFrom p q s ⊎ EqFrom q p s
 -- that all objects are so, from a subproof about an arbitrary one
 Follows r.AllIntro [] (b ∷ []) s = (c : Word) × (x : Word) × (p : Sent) × (b.boxed ≡ Some c) × (s ≡ All x p) × Generalizes b c x p

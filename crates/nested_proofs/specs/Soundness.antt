@@ -3,7 +3,7 @@ use Rattle.std.specs.Prelude.{◌≡◌, true, false, IsTrue, Bool, List, ◌++�
 use Rattle.std.specs.List.{AllByRecursion}
 use Rattle.fol_core.specs.declared.sent.Sent.{Sent}
 use Rattle.fol_core.specs.Word.{Word}
-use Rattle.fol_core.specs.Closed.{closed}
+use Rattle.fol_core.specs.Statements.{statement, AreStatements}
 use Rattle.fol_core.specs.Subst.{occurs}
 use Rattle.deriv_laws.specs.declared.rule.Rule.{Rule}
 use Rattle.deriv_laws.specs.declared.rule.Rule.TheVariants as r
@@ -11,7 +11,7 @@ use Rattle.deriv_laws.specs.Derivable.{Der}
 use Rattle.nested_proofs.specs.Items.{Items, opens, AreProper}
 use Rattle.nested_proofs.specs.Scope.{prepend}
 use Rattle.nested_proofs.specs.Placed.{Placed, lines_of, last_of}
-use Rattle.nested_proofs.specs.Justified.{Consequence, IsJustified, HasClosed}
+use Rattle.nested_proofs.specs.Justified.{Consequence, IsJustified, HasStatement}
 use Rattle.nested_proofs.specs.Faults.{Answers, IsFirstFailure, says_yes}
 
 -- The assumptions that are open at a line: those of the subproofs that it stands in, and its own where it opens one.
@@ -22,14 +22,10 @@ open_at_line x = if opens x.line.rule then prepend x.line.sentence x.around.assu
 abbrev pub IsDerived : List Sent → Placed → Type 0
 IsDerived base x = IfSome x.line.sentence (λ s. Der (open_at_line x ++ base) s)
 
--- The sentences are closed.
-abbrev pub AreClosed : List Sent → Type 0
-AreClosed ss = AllByRecursion (λ s. IsTrue (closed s)) ss
-
--- A consequence rule is sound over the axioms: a closed sentence that it says to be a consequence of
--- closed sentences is derivable from them and the axioms.
+-- A consequence rule is sound over the axioms: a statement that it says to be a consequence of
+-- statements is derivable from them and the axioms.
 abbrev pub IsSoundOver : Consequence → List Sent → Type 0
-IsSoundOver con axioms = (rule : Rule) (ps : List Sent) (s : Sent) → AreClosed ps → IsTrue (closed s) → con rule ps s → Der (ps ++ axioms) s
+IsSoundOver con axioms = (rule : Rule) (ps : List Sent) (s : Sent) → AreStatements ps → IsTrue (statement s) → con rule ps s → Der (ps ++ axioms) s
 
 -- No name stands in the axioms, so that they say nothing of a boxed constant.
 abbrev pub HaveNoName : List Sent → Type 0
@@ -39,13 +35,13 @@ HaveNoName axioms = (c : Word) → AllByRecursion (λ s. occurs c s ≡ false) a
 -- there, the premises and the axioms.
 abbrev pub EachLineIsDerived : Consequence → List Sent → Type 0
 EachLineIsDerived con axioms = (premises : List Sent) (items : Items) → IsSoundOver con axioms → HaveNoName axioms → AreProper items →
-    AllByRecursion HasClosed (lines_of items) → AllByRecursion (IsJustified con premises) (lines_of items) → AllByRecursion (IsDerived (premises ++ axioms)) (lines_of items)
+    AllByRecursion HasStatement (lines_of items) → AllByRecursion (IsJustified con premises) (lines_of items) → AllByRecursion (IsDerived (premises ++ axioms)) (lines_of items)
 
 -- Where each line is justified, the last sentence outside all subproofs is derivable from the premises
 -- and the axioms alone.
 abbrev pub LastLineIsDerived : Consequence → List Sent → Type 0
 LastLineIsDerived con axioms = (premises : List Sent) (items : Items) (goal : Sent) → IsSoundOver con axioms → HaveNoName axioms → AreProper items →
-    AllByRecursion HasClosed (lines_of items) → AllByRecursion (IsJustified con premises) (lines_of items) → last_of None items ≡ Some goal → Der (premises ++ axioms) goal
+    AllByRecursion HasStatement (lines_of items) → AllByRecursion (IsJustified con premises) (lines_of items) → last_of None items ≡ Some goal → Der (premises ++ axioms) goal
 
 -- No consequence rule is allowed.
 abbrev pub none_allowed : Consequence
@@ -55,7 +51,7 @@ none_allowed rule ps s = ⊥
 -- the axioms alone.
 abbrev pub FaultlessProofShows : {A : Type 0} → (Rule → Bool) → Answers A → List Sent → Type 0
 FaultlessProofShows allowed answers axioms = (premises : List Sent) (items : Items) (goal : Sent) → IsSoundOver (says_yes allowed answers) axioms → HaveNoName axioms → AreProper items →
-    AllByRecursion HasClosed (lines_of items) → AllByRecursion (λ (x : Placed). IsFirstFailure allowed answers premises x None) (lines_of items) → last_of None items ≡ Some goal → Der (premises ++ axioms) goal
+    AllByRecursion HasStatement (lines_of items) → AllByRecursion (λ (x : Placed). IsFirstFailure allowed answers premises x None) (lines_of items) → last_of None items ≡ Some goal → Der (premises ++ axioms) goal
 
 -- The rules other than the consequence rules are allowed.
 abbrev pub without_consequence : Rule → Bool

@@ -5,15 +5,11 @@
 mod cites;
 mod count;
 mod fresh;
-#[cfg(test)]
-mod fresh_tests;
 mod laws;
 mod lines;
 mod nesting;
 mod read_off;
 mod shape;
-#[cfg(test)]
-mod tests;
 mod visibility;
 
 pub use cites::cites_ok;

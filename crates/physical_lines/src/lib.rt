@@ -2,7 +2,5 @@
 #![tactic(auto)]
 
 mod physical;
-#[cfg(test)]
-mod tests;
 
 pub use physical::{Physical, after_header, first_line, is_blank};

@@ -6,8 +6,6 @@ mod laws;
 mod lines;
 mod play;
 mod play_text;
-#[cfg(test)]
-mod tests;
 mod words;
 
 pub use laws::play_text_laws;

@@ -2,13 +2,14 @@
 use Rattle.std.proofs.Common.{◌≡◌, ◌≢◌, ◌⊎◌, inl, inr, Err, ℕ, List, [], ◌∷◌, ◌++◌, map, refl, sym, subst, Option, Some, None, IsTrue, append-nil, Ok, Result, IfOk, IfSome}
 use Rattle.std.specs.List.{AllByRecursion}
 use Rattle.fol_core.specs.declared.sent.Sent.{Sent}
-use Rattle.fol_core.specs.Closed.{closed}
+use Rattle.fol_core.specs.Statements.{statement}
 use Rattle.deriv_laws.specs.declared.line.FlatLine.{FlatLine}
 use Rattle.deriv_laws.specs.Derivable.{Der}
 use Rattle.nested_proofs.specs.Items.{Items, flatten}
 use Rattle.nested_proofs.specs.Placed.{Placed, lines_of, outside}
 use Rattle.nested_proofs.proofs.Soundness.{faultless_proof_shows}
 use Rattle.nested_proofs.proofs.VisibleSentences.{placed_lines}
+use Rattle.fol_text.proofs.Wellformed.{readable_stated}
 use Rattle.fitch_file.specs.Line.{IsStated}
 use Rattle.fitch_file.specs.ProofText.{SpellLines, SpellsProof, no_more, blank_line, proof_line}
 use Rattle.fitch_file.specs.declared.task.Task.{Task}
@@ -26,18 +27,18 @@ use Rattle.proof_check.specs.Failing.{is_allowed, answers}
 use Rattle.proof_check.proofs.Tautologies.{yes_shows}
 use Rattle.proof_check.specs.Judged.{IsCorrect, IsJudged, is_correct, fails_first, misses_goal, IsText, IsVerdict, of_proof, of_faulty}
 
-abbrev StatesClosed : FlatLine → Type 0
-StatesClosed y = IfSome y.sentence (λ s. IsTrue (closed s))
+abbrev StatesStatement : FlatLine → Type 0
+StatesStatement y = IfSome y.sentence (λ s. IsTrue (statement s))
 
--- what a line states is closed
-stated_closed : (text : List ℕ) (s : Option Sent) → IsStated text s → IfSome s (λ x. IsTrue (closed x))
-stated_closed text None h = tt
-stated_closed text (Some s) h = h.1.fit.closed
+-- what a line states is a statement
+line_stated : (text : List ℕ) (s : Option Sent) → IsStated text s → IfSome s (λ x. IsTrue (statement x))
+line_stated text None h = tt
+line_stated text (Some s) h = readable_stated text s h.1
 
-spelled_closed : (earlier : List FlatLine) (texts : List (List ℕ)) (ls : List FlatLine) → SpellLines earlier texts ls → AllByRecursion StatesClosed ls
-spelled_closed _ _ _ (no_more earlier) = tt
-spelled_closed _ _ _ (blank_line earlier text texts ls b h) = spelled_closed earlier texts ls h
-spelled_closed _ _ _ (proof_line earlier text texts l ls h k) = (stated_closed h.claim.stated l.sentence h.claimed.stated, spelled_closed (earlier ++ l ∷ []) texts ls k)
+spelled_stated : (earlier : List FlatLine) (texts : List (List ℕ)) (ls : List FlatLine) → SpellLines earlier texts ls → AllByRecursion StatesStatement ls
+spelled_stated _ _ _ (no_more earlier) = tt
+spelled_stated _ _ _ (blank_line earlier text texts ls b h) = spelled_stated earlier texts ls h
+spelled_stated _ _ _ (proof_line earlier text texts l ls h k) = (line_stated h.claim.stated l.sentence h.claimed.stated, spelled_stated (earlier ++ l ∷ []) texts ls k)
 
 -- what a line states is within the limits
 stated_within : (text : List ℕ) (s : Option Sent) → IsStated text s → IfSome s (λ x. within_limits x ≡ Ok tt)
@@ -59,7 +60,7 @@ pub correct_proof_shows : (task : Task) (text : List ℕ) (p : Items) → IsText
 correct_proof_shows task text p t h =
     subst (λ gs. Der gs task.goal) (append-nil task.premises)
     (faultless_proof_shows (is_allowed task.allowed) answers [] task.premises p task.goal (λ rule ps s c f g. yes_shows rule ps s c f g.1) (λ c. tt) t.proper
-    (placed_all StatesClosed (lines_of p) (flatten 1 p) (placed_lines p outside 1 1) (spelled_closed [] t.spells.rest (flatten 1 p) t.spells.spell))
+    (placed_all StatesStatement (lines_of p) (flatten 1 p) (placed_lines p outside 1 1) (spelled_stated [] t.spells.rest (flatten 1 p) t.spells.spell))
     h.pass h.reached)
 
 -- a text that is a proof has the verdict of its nested proof

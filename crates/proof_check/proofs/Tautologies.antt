@@ -2,7 +2,7 @@
 use Rattle.std.proofs.Common.{◌≡◌, ℕ, ◌+◌, ◌-◌, ◌<◌, ◌≤◌, true, false, List, [], ◌++◌, length, get_or, refl, ap, sym, subst, ◌∙◌, Bool, Option, Some, None, Result, Ok, Err, IsTrue, append-nil}
 use Rattle.std.specs.Prelude.{MatchResult, ◌≢◌, ◌||◌, ◌&&◌}
 use Rattle.fol_core.specs.declared.sent.Sent.{Sent}
-use Rattle.fol_core.specs.Closed.{closed}
+use Rattle.fol_core.specs.Statements.{statement, AreStatements}
 use Rattle.deriv_laws.specs.declared.rule.Rule.{Rule}
 use Rattle.deriv_laws.specs.declared.rule.Rule.TheVariants as r
 use Rattle.deriv_laws.specs.declared.line.FlatLine.{FlatLine}
@@ -15,7 +15,6 @@ use Rattle.nested_proofs.specs.CiteTests.{cites_fault, is_inferred, IsVerdict as
 use Rattle.nested_proofs.specs.Nesting.{WellNested}
 use Rattle.nested_proofs.specs.AtLine.{AtLine}
 use Rattle.nested_proofs.specs.Faults.{Failure, AsStep, NotAConsequence, IsConsequenceFailure, AreOne}
-use Rattle.nested_proofs.specs.Soundness.{AreClosed}
 use Rattle.nested_proofs.proofs.Reading.{at_line}
 use Rattle.taut_con.specs.declared.answer.TautAnswer.{TautAnswer}
 use Rattle.taut_con.specs.declared.answer.TautAnswer.TheVariants.{Yes, No, TooManyLetters}
@@ -134,7 +133,7 @@ yes_alone (No row) e = cc
 yes_alone (TooManyLetters n) e = cc
 
 -- what a consequence rule says yes to is derivable
-pub yes_shows : (rule : Rule) (ps : List Sent) (s : Sent) → AreClosed ps → IsTrue (closed s) → answers rule ps s None → Der (ps ++ []) s
+pub yes_shows : (rule : Rule) (ps : List Sent) (s : Sent) → AreStatements ps → IsTrue (statement s) → answers rule ps s None → Der (ps ++ []) s
 yes_shows r.TautCon ps s c f h = subst (λ gs. Der gs s) (sym (append-nil ps)) (yes_derivable ps s c f (yes_alone (taut_answer ps s) h))
 yes_shows rule ps s c f h = absurd h
 

@@ -7,8 +7,6 @@ mod ending;
 mod fresh;
 mod laws;
 mod line;
-#[cfg(test)]
-mod tests;
 mod verdict;
 
 pub use check::check_proof;

@@ -6,8 +6,6 @@ mod check;
 mod cited;
 mod from_lines;
 mod rules;
-#[cfg(test)]
-mod tests;
 
 pub use check::check_prop;
 pub use cited::only_cited;

@@ -1,3 +1,4 @@
+pub mod Grounds
 pub mod Putting
 pub mod Entries
 pub mod PutNames

@@ -1,23 +1,22 @@
 ghost use Rattle.std.specs.Prelude.{◌≡◌, ◌↔◌, [], ◌∷◌, IsTrue};
 ghost use Rattle.fol_core.specs.declared.sent.Sent.TheVariants as form;
-ghost use Rattle.fol_core.specs.declared.sent.Term.TheVariants as terms;
-ghost use Rattle.fol_core.specs.Word.{Word};
+ghost use Rattle.fol_core.specs.declared.sent.Term.{Term};
 ghost use Rattle.deriv_laws.specs.declared.rule.Rule.TheVariants as rules;
 ghost use Rattle.nested_proofs.specs.Rules.{Follows, EqFrom};
 
-use fol_core::{Sent, Term, replaces, same_ident};
+use fol_core::{Sent, replaces, same_term};
 
-/// Whether `s` says of a name that it is equal to itself.
+/// Whether `s` says of a term that it is equal to itself.
 pub fn is_reflexive(s: &Sent) -> bool
-    ensures exact { IsTrue result ↔ ((n : Word) × (s.now ≡ form.Eq (terms.Name n) (terms.Name n))) }
+    ensures exact { IsTrue result ↔ ((a : Term) × (s.now ≡ form.Eq a a)) }
 {
     match s {
-        Sent::Eq(Term::Name(a), Term::Name(b)) => same_ident(a, b),
+        Sent::Eq(a, b) => same_term(a, b),
         _ => false,
     }
 }
 
-/// Whether one of the two sentences is an equation between names, and `s` is the other with some occurrences of one
+/// Whether one of the two sentences is an equation, and `s` is the other with some occurrences of one
 /// side replaced by the other side.
 pub fn is_replaced(p: &Sent, q: &Sent, s: &Sent) -> bool
     ensures exact { IsTrue result ↔ Follows rules.EqElim (p.now ∷ q.now ∷ []) [] s.now }
@@ -29,7 +28,7 @@ fn is_replaced_by(e: &Sent, p: &Sent, s: &Sent) -> bool
     ensures exact { IsTrue result ↔ EqFrom e.now p.now s.now }
 {
     match e {
-        Sent::Eq(Term::Name(a), Term::Name(b)) => replaces(p, s, a, b) || replaces(p, s, b, a),
+        Sent::Eq(a, b) => replaces(p, s, a, b) || replaces(p, s, b, a),
         _ => false,
     }
 }

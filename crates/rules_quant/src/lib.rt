@@ -9,8 +9,6 @@ mod names;
 mod rows;
 mod rules;
 mod shown;
-#[cfg(test)]
-mod tests;
 
 pub use check::check_quant;
 pub use rules::is_quantified;

@@ -2,17 +2,18 @@ ghost use Rattle.std.specs.Prelude.{◌≡◌, ◌↔◌, IsTrue, map};
 ghost use Rattle.fol_core.specs.declared.sent.Term.TheVariants as terms;
 ghost use Rattle.rules_quant.specs.Naming as naming;
 
-use fol_core::{Ident, Sent, Term, same_ident};
+use fol_core::{Ident, Sent, Term, same_ident, same_term};
 
-/// Which names stand for variables, the innermost first. A hidden variable stands for itself.
+/// Which terms and names stand for variables, the innermost first. A hidden variable stands for itself.
 #[derive(Drop)]
 pub enum Names<'a> {
     None,
+    Known(&'a Ident, &'a Term, &'a Names<'a>),
     Named(&'a Ident, &'a Ident, &'a Names<'a>),
     Hidden(&'a Ident, &'a Names<'a>),
 }
 
-/// Whether `t` is `q` with the names in the places of its free variables. It takes no memory.
+/// Whether `t` is `q` with the terms and names in the places of its free variables. It takes no memory.
 #[cycle(put)]
 #[tactic(auto, using(crate::proofs::Putting::put_and, crate::proofs::Putting::put_or))]
 pub fn is_put(q: &Sent, names: &Names<'_>, t: &Sent) -> bool
@@ -58,6 +59,7 @@ fn are_put(qs: &[Sent], names: &Names<'_>, ts: &[Sent]) -> bool
     true
 }
 
+#[cycle(put_terms)]
 fn are_put_terms(ts: &[Term], names: &Names<'_>, us: &[Term]) -> bool
     ensures value { IsTrue result ↔ (us.now ≡ map (naming.put_term (naming.entries names.now)) ts.now) }
 {
@@ -72,21 +74,35 @@ fn are_put_terms(ts: &[Term], names: &Names<'_>, us: &[Term]) -> bool
     true
 }
 
+#[cycle(put_terms)]
 fn is_put_term(t: &Term, names: &Names<'_>, u: &Term) -> bool
     ensures value { IsTrue result ↔ (u.now ≡ naming.put_term (naming.entries names.now) t.now) }
 {
     match t {
         Term::Var(y) => stands_for(names, y, u),
         Term::Name(m) => is_name(u, m),
+        Term::App(f, ts) => match u {
+            Term::App(g, us) => {
+                same_ident(g, f) && are_put_terms(ts.as_slice(), names, us.as_slice())
+            }
+            _ => false,
+        },
     }
 }
 
 /// Whether the term stands for the variable.
 fn stands_for(names: &Names<'_>, y: &Ident, u: &Term) -> bool
-    ensures value { IsTrue result ↔ (u.now ≡ naming.term_of (naming.name_of (naming.entries names.now) y.now) y.now) }
+    ensures value { IsTrue result ↔ (u.now ≡ naming.or_itself (naming.term_for (naming.entries names.now) y.now) y.now) }
 {
     match names {
         Names::None => is_variable(u, y),
+        Names::Known(x, r, rest) => {
+            if same_ident(x, y) {
+                same_term(u, r)
+            } else {
+                stands_for(rest, y, u)
+            }
+        }
         Names::Named(x, n, rest) => {
             if same_ident(x, y) {
                 is_name(u, n)
@@ -109,7 +125,7 @@ fn is_variable(u: &Term, y: &Ident) -> bool
 {
     match u {
         Term::Var(z) => same_ident(z, y),
-        Term::Name(_) => false,
+        _ => false,
     }
 }
 
@@ -118,6 +134,6 @@ fn is_name(u: &Term, n: &Ident) -> bool
 {
     match u {
         Term::Name(m) => same_ident(m, n),
-        Term::Var(_) => false,
+        _ => false,
     }
 }

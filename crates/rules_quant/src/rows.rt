@@ -5,7 +5,7 @@ ghost use Rattle.rules_quant.specs.Naming as naming;
 ghost use Rattle.rules_quant.specs.Rows as rows;
 
 use crate::names::{Names, is_put};
-use fol_core::{Ident, Sent, instance_name, same_ident};
+use fol_core::{Ident, Sent, Term, instance_term, is_closed_term, same_ident};
 
 /// The most instances that one step takes in a row.
 pub const MOST_INSTANCES: usize = 8;
@@ -17,7 +17,7 @@ pub enum Quantifier {
     Exists,
 }
 
-/// Whether one to eight instances in a row lead from `q` to `t`, each by some name. It takes no memory.
+/// Whether one to eight instances in a row lead from `q` to `t`, each by some closed term. It takes no memory.
 pub fn leads(quantifier: Quantifier, q: &Sent, t: &Sent) -> bool
     ensures exact { IsTrue result ↔ OneToEight (rows.Instance quantifier) q.now t.now }
 {
@@ -29,9 +29,10 @@ pub fn leads(quantifier: Quantifier, q: &Sent, t: &Sent) -> bool
     false
 }
 
-/// Whether so many of the quantifiers before `q` have names for which `t` is what stands behind them, with these names
-/// and those known before put in. Names are read off `t` one after the other; where none is to be read, any will do.
+/// Whether so many of the quantifiers before `q` have ground terms for which `t` is what stands behind them, with these
+/// and those known before put in. Terms are read off `t` one after the other; where none is to be read, any will do.
 fn leads_by(quantifier: Quantifier, q: &Sent, names: &Names<'_>, count: usize, t: &Sent) -> bool
+    requires known_ground { naming.HaveGround (naming.entries names.now) }
     ensures exact { IsTrue result ↔ rows.Rows quantifier count q.now (naming.entries names.now) t.now }
 {
     if count == 0 {
@@ -41,35 +42,44 @@ fn leads_by(quantifier: Quantifier, q: &Sent, names: &Names<'_>, count: usize, t
         return false;
     };
     match read_past(quantifier, x, matrix, count - 1, t) {
-        Some(name) => leads_by(
-            quantifier,
-            matrix,
-            &Names::Named(x, name, &*names),
-            count - 1,
-            t,
-        ),
-        None => leads_by(
-            quantifier,
-            matrix,
-            &Names::Named(x, x, &*names),
-            count - 1,
-            t,
-        ),
+        Some(term) => {
+            if !is_closed_term(term) {
+                return false;
+            }
+            leads_by(
+                quantifier,
+                matrix,
+                &Names::Known(x, term, &*names),
+                count - 1,
+                t,
+            )
+        }
+        None => {
+            // Any term will do. The name that is spelled as the variable is at hand, and it is an identifier.
+            let _spelled = x.as_slice();
+            leads_by(
+                quantifier,
+                matrix,
+                &Names::Named(x, x, &*names),
+                count - 1,
+                t,
+            )
+        }
     }
 }
 
-/// The name that `t` has at the first place where `x` is free in `q` past so many quantifiers.
+/// The term that `t` has at the first place where `x` is free in `q` past so many quantifiers.
 fn read_past<'a>(
     quantifier: Quantifier,
     x: &Ident,
     q: &Sent,
     count: usize,
     t: &'a Sent,
-) -> Option<&'a Ident>
+) -> Option<&'a Term>
     ensures value { option_copied result ≡ rows.read_past quantifier x.now t.now count q.now }
 {
     if count == 0 {
-        return instance_name(q, x, t);
+        return instance_term(q, x, t);
     }
     match split(quantifier, q) {
         Some((y, matrix)) => {

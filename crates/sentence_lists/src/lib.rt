@@ -3,8 +3,6 @@
 
 mod laws;
 mod list;
-#[cfg(test)]
-mod tests;
 
 pub use laws::sentence_list_laws;
 pub use list::{ListFault, read_sentences};

@@ -3,7 +3,7 @@ use Rattle.std.proofs.Common.{◌≡◌, ℕ, ◌+◌, ◌≤◌, List, [], ◌�
 use Rattle.std.specs.Prelude.{not, cond, filter}
 use Rattle.std.specs.List.{flat_map, AllByRecursion}
 use Rattle.fol_core.specs.declared.sent.Sent.{Sent}
-use Rattle.fol_core.specs.Size.{total, nodes}
+use Rattle.fol_core.specs.Size.{total, nodes, term_nodes}
 use Rattle.fol_core.proofs.Sizes.{nodes_atom, nodes_eq, nodes_bottom, nodes_not, nodes_and, nodes_or, nodes_if, nodes_iff, nodes_all, nodes_ex}
 use Rattle.deriv_laws.specs.Discharge.{alike}
 use Rattle.taut_con.specs.Letters.{letter_occurrences, letters, distinct}
@@ -23,8 +23,8 @@ parts_within (p ∷ ps) h = omega (arith, h.0, parts_within ps h.1, length-appen
 
 letters_within : (p : Sent) → IsWithin p
 letters_within = by_form IsWithin (record {
-  atom = λ p ts. one_letter _ (length ts) (letters_atom p ts) (nodes_atom p ts);
-  equation = λ a b. one_letter _ 2 (letters_eq a b) (nodes_eq a b);
+  atom = λ p ts. one_letter _ (total (map term_nodes ts)) (letters_atom p ts) (nodes_atom p ts);
+  equation = λ a b. omega (arith, ap length (letters_eq a b), nodes_eq a b);
   bottom = omega (arith, ap length letters_bottom, nodes_bottom);
   negation = λ p h. omega (arith, h, ap length (letters_not p), nodes_not p);
   conjunction = λ ps h. omega (arith, parts_within ps h, ap length (letters_and ps), nodes_and ps);

@@ -3,9 +3,9 @@ use Rattle.std.proofs.Common.{◌≡◌, suc, List, [], ◌∷◌, ◌++◌, len
 use Rattle.std.specs.Prelude.{not, cond, filter}
 use Rattle.std.specs.List.{flat_map, AllByRecursion}
 use Rattle.fol_core.specs.declared.sent.Sent.{Sent}
-use Rattle.fol_core.specs.Closed.{closed}
-use Rattle.fol_core.proofs.Closing.{closed_not, closed_if, closed_iff}
-use Rattle.fol_core.proofs.Forms.{closed_conjunct, closed_disjunct}
+use Rattle.fol_core.specs.Statements.{statement, AreStatements}
+use Rattle.fol_core.proofs.Stating.{stated_not, stated_if, stated_iff}
+use Rattle.fol_core.proofs.Forms.{conjunct_stated, disjunct_stated}
 use Rattle.fol_core.proofs.Equality.{alike_refl, alike_same}
 use Rattle.std.proofs.lemmas.Bool.{and_parts}
 use Rattle.deriv_laws.specs.Derivable.{Der}
@@ -13,7 +13,6 @@ use Rattle.deriv_laws.specs.Discharge.{alike}
 use Rattle.deriv_laws.proofs.Members.{contains_here, contains_there, contains_cases, contains_left, contains_right}
 use Rattle.taut_con.specs.Letters.{letter_occurrences, distinct}
 use Rattle.taut_con.specs.Values.{valuation}
-use Rattle.taut_con.specs.Laws.{AreClosed}
 use Rattle.taut_con.proofs.Equations.{letters_atom, letters_eq, letters_bottom, letters_not, letters_and, letters_or, letters_if, letters_iff, letters_all, letters_ex}
 use Rattle.taut_con.proofs.Induction.{by_form}
 use Rattle.taut_con.proofs.Deciding.{signed, either_way}
@@ -24,7 +23,7 @@ literals (l ∷ ls) (b ∷ bs) = signed b l ∷ literals ls bs
 literals _ _ = []
 
 -- What is derivable from the literals of each row is derivable.
-pub by_rows : (gs : List Sent) (s : Sent) → IsTrue (closed s) → (ls : List Sent) → AreClosed ls → ((bs : List Bool) → length bs ≡ length ls → Der (literals ls bs ++ gs) s) → Der gs s
+pub by_rows : (gs : List Sent) (s : Sent) → IsTrue (statement s) → (ls : List Sent) → AreStatements ls → ((bs : List Bool) → length bs ≡ length ls → Der (literals ls bs ++ gs) s) → Der gs s
 by_rows gs s k [] c f = f [] refl
 by_rows gs s k (l ∷ ls) c f =
     by_rows gs s k ls c.1 (λ bs e. either_way (literals ls bs ++ gs) l s c.0 k (f (true ∷ bs) (ap (λ n. suc n) e)) (f (false ∷ bs) (ap (λ n. suc n) e)))
@@ -64,50 +63,50 @@ in_distinct (p ∷ ps) x i =
     contains_cases (Contains (distinct (p ∷ ps)) x) p x ps (λ e. subst (λ z. Contains (distinct (p ∷ ps)) z) e (contains_here p (filter (λ q. not (alike p q)) (distinct ps))))
     (λ j. distinct_or p x ps (alike p x) refl (in_distinct ps x j)) i
 
-closed_or_not : (x : Sent) (b : Bool) (ys : List Sent) → IsTrue (closed x) → AreClosed ys → AreClosed (cond b (x ∷ ys) ys)
-closed_or_not x true ys c h = (c, h)
-closed_or_not x false ys c h = h
+stated_or_not : (x : Sent) (b : Bool) (ys : List Sent) → IsTrue (statement x) → AreStatements ys → AreStatements (cond b (x ∷ ys) ys)
+stated_or_not x true ys c h = (c, h)
+stated_or_not x false ys c h = h
 
-filter_closed : (f : Sent → Bool) (xs : List Sent) → AreClosed xs → AreClosed (filter f xs)
-filter_closed f [] h = tt
-filter_closed f (x ∷ xs) h = closed_or_not x (f x) (filter f xs) h.0 (filter_closed f xs h.1)
+filter_stated : (f : Sent → Bool) (xs : List Sent) → AreStatements xs → AreStatements (filter f xs)
+filter_stated f [] h = tt
+filter_stated f (x ∷ xs) h = stated_or_not x (f x) (filter f xs) h.0 (filter_stated f xs h.1)
 
-pub distinct_closed : (ps : List Sent) → AreClosed ps → AreClosed (distinct ps)
-distinct_closed [] h = tt
-distinct_closed (p ∷ ps) h = (h.0, filter_closed (λ q. not (alike p q)) (distinct ps) (distinct_closed ps h.1))
+pub distinct_stated : (ps : List Sent) → AreStatements ps → AreStatements (distinct ps)
+distinct_stated [] h = tt
+distinct_stated (p ∷ ps) h = (h.0, filter_stated (λ q. not (alike p q)) (distinct ps) (distinct_stated ps h.1))
 
-pub both_closed : (xs ys : List Sent) → AreClosed xs → AreClosed ys → AreClosed (xs ++ ys)
-both_closed [] ys h k = k
-both_closed (x ∷ xs) ys h k = (h.0, both_closed xs ys h.1 k)
+pub both_stated : (xs ys : List Sent) → AreStatements xs → AreStatements ys → AreStatements (xs ++ ys)
+both_stated [] ys h k = k
+both_stated (x ∷ xs) ys h k = (h.0, both_stated xs ys h.1 k)
 
--- The letters of a closed sentence are closed.
-abbrev HasClosedLetters : Sent → Type 0
-HasClosedLetters s = IsTrue (closed s) → AreClosed (letter_occurrences s)
+-- The letters of a statement are statements.
+abbrev HasStatedLetters : Sent → Type 0
+HasStatedLetters s = IsTrue (statement s) → AreStatements (letter_occurrences s)
 
-itself_closed : (s : Sent) → letter_occurrences s ≡ s ∷ [] → HasClosedLetters s
-itself_closed s e c = subst (λ ls. AreClosed ls) (sym e) (c, tt)
+itself_stated : (s : Sent) → letter_occurrences s ≡ s ∷ [] → HasStatedLetters s
+itself_stated s e c = subst (λ ls. AreStatements ls) (sym e) (c, tt)
 
-parts_closed : (ps : List Sent) → AllByRecursion HasClosedLetters ps → ((p : Sent) → Contains ps p → IsTrue (closed p)) → AreClosed (flat_map letter_occurrences ps)
-parts_closed [] h c = tt
-parts_closed (p ∷ ps) h c = both_closed (letter_occurrences p) (flat_map letter_occurrences ps) (h.0 (c p (contains_here p ps))) (parts_closed ps h.1 (λ q i. c q (contains_there p q ps i)))
+parts_stated : (ps : List Sent) → AllByRecursion HasStatedLetters ps → ((p : Sent) → Contains ps p → IsTrue (statement p)) → AreStatements (flat_map letter_occurrences ps)
+parts_stated [] h c = tt
+parts_stated (p ∷ ps) h c = both_stated (letter_occurrences p) (flat_map letter_occurrences ps) (h.0 (c p (contains_here p ps))) (parts_stated ps h.1 (λ q i. c q (contains_there p q ps i)))
 
-pub letters_closed : (s : Sent) → HasClosedLetters s
-letters_closed = by_form HasClosedLetters (record {
-  atom = λ p ts. itself_closed _ (letters_atom p ts);
-  equation = λ a b. itself_closed _ (letters_eq a b);
-  bottom = λ c. subst (λ ls. AreClosed ls) (sym letters_bottom) tt;
-  negation = λ p h c. subst (λ ls. AreClosed ls) (sym (letters_not p)) (h (sym (closed_not p []) ∙ c));
-  conjunction = λ ps h c. subst (λ ls. AreClosed ls) (sym (letters_and ps)) (parts_closed ps h (λ p i. closed_conjunct ps p c i));
-  disjunction = λ ps h c. subst (λ ls. AreClosed ls) (sym (letters_or ps)) (parts_closed ps h (λ p i. closed_disjunct ps p c i));
-  conditional = λ p q h k c. let w = and_parts _ _ (sym (closed_if p q []) ∙ c) in subst (λ ls. AreClosed ls) (sym (letters_if p q)) (both_closed (letter_occurrences p) (letter_occurrences q) (h w.0) (k w.1));
-  biconditional = λ p q h k c. let w = and_parts _ _ (sym (closed_iff p q []) ∙ c) in subst (λ ls. AreClosed ls) (sym (letters_iff p q)) (both_closed (letter_occurrences p) (letter_occurrences q) (h w.0) (k w.1));
-  universal = λ x p h. itself_closed _ (letters_all x p);
-  existential = λ x p h. itself_closed _ (letters_ex x p);
+pub letters_stated : (s : Sent) → HasStatedLetters s
+letters_stated = by_form HasStatedLetters (record {
+  atom = λ p ts. itself_stated _ (letters_atom p ts);
+  equation = λ a b. itself_stated _ (letters_eq a b);
+  bottom = λ c. subst (λ ls. AreStatements ls) (sym letters_bottom) tt;
+  negation = λ p h c. subst (λ ls. AreStatements ls) (sym (letters_not p)) (h (sym (stated_not p []) ∙ c));
+  conjunction = λ ps h c. subst (λ ls. AreStatements ls) (sym (letters_and ps)) (parts_stated ps h (λ p i. conjunct_stated ps p c i));
+  disjunction = λ ps h c. subst (λ ls. AreStatements ls) (sym (letters_or ps)) (parts_stated ps h (λ p i. disjunct_stated ps p c i));
+  conditional = λ p q h k c. let w = and_parts _ _ (sym (stated_if p q []) ∙ c) in subst (λ ls. AreStatements ls) (sym (letters_if p q)) (both_stated (letter_occurrences p) (letter_occurrences q) (h w.0) (k w.1));
+  biconditional = λ p q h k c. let w = and_parts _ _ (sym (stated_iff p q []) ∙ c) in subst (λ ls. AreStatements ls) (sym (letters_iff p q)) (both_stated (letter_occurrences p) (letter_occurrences q) (h w.0) (k w.1));
+  universal = λ x p h. itself_stated _ (letters_all x p);
+  existential = λ x p h. itself_stated _ (letters_ex x p);
 })
 
-pub all_letters_closed : (ss : List Sent) → AreClosed ss → AreClosed (flat_map letter_occurrences ss)
-all_letters_closed [] h = tt
-all_letters_closed (s ∷ ss) h = both_closed (letter_occurrences s) (flat_map letter_occurrences ss) (letters_closed s h.0) (all_letters_closed ss h.1)
+pub all_letters_stated : (ss : List Sent) → AreStatements ss → AreStatements (flat_map letter_occurrences ss)
+all_letters_stated [] h = tt
+all_letters_stated (s ∷ ss) h = both_stated (letter_occurrences s) (flat_map letter_occurrences ss) (letters_stated s h.0) (all_letters_stated ss h.1)
 
 -- the letters of one of the sentences are among those of all
 pub letter_among : (ss : List Sent) (s l : Sent) → Contains ss s → Contains (letter_occurrences s) l → Contains (flat_map letter_occurrences ss) l

@@ -81,6 +81,9 @@ map_long : (f : ℕ → Bool) (xs : List ℕ) → length (map f xs) ≡ length x
 map_long f [] = refl
 map_long f (x ∷ xs) = ap (λ k. suc k) (map_long f xs)
 
+pub row_long : (n r : ℕ) → length (row_values n r) ≡ n
+row_long n r = map_long _ (range_with_len 1 n) ∙ range_long 1 n
+
 filter_same : (f g : ℕ → Bool) → ((r : ℕ) → f r ≡ g r) → (xs : List ℕ) → filter f xs ≡ filter g xs
 filter_same f g e [] = refl
 filter_same f g e (x ∷ xs) = ap₂ (λ b ys. cond b (x ∷ ys) ys) (e x) (filter_same f g e xs)
@@ -91,7 +94,7 @@ same_rows ls ps g cs a h k = filter_same (refutes_in_row cs a (length ls)) (is_c
     each : (r : ℕ) → refutes_in_row cs a (length ls) r ≡ is_countermodel ls ps g r
     each r =
         let bs : List Bool = row_values (length ls) r in
-        let long : length bs ≡ length ls = map_long _ (range_with_len 1 (length ls)) ∙ range_long 1 (length ls) in
+        let long : length bs ≡ length ls = row_long (length ls) r in
         let w : length bs ≤ length ls = omega (arith, long) in
         ap₂ (λ x y. x && not y)
         (sym (all_itself (formula_value bs) cs) ∙ ap (λ xs. list_all itself xs) (h.same bs w) ∙ all_itself (value (valuation ls bs)) ps)

@@ -4,6 +4,8 @@ pub mod Gathering
 pub mod Placing
 pub mod Encoding
 pub mod Compiling
+pub mod Patterns
+pub mod RowBits
 pub mod Searching
 pub mod Bounding
 pub mod Deciding

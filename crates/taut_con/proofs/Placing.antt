@@ -2,7 +2,7 @@
 use Rattle.std.proofs.Common.{◌≡◌, ℕ, zero, suc, ◌+◌, ◌<◌, ◌≤◌, List, [], ◌∷◌, length, get_or, map, refl, ap, ap₂, sym, ◌∙◌, subst, Bool, true, false, true≢false, arith}
 use Rattle.std.specs.Prelude.{not, ◌&&◌, cond, nat_lt}
 use Rattle.std.specs.List.{position_or_len, range_with_len}
-use Rattle.std.proofs.lemmas.Bool.{ltb-false, ltb-true, lt-ltb}
+use Rattle.std.proofs.lemmas.Bool.{ltb-false, ltb-true, lt-ltb, le-ltb}
 use Rattle.std.proofs.lemmas.List.Sums.{position_or_len_is}
 use Rattle.fol_core.specs.declared.sent.Sent.{Sent}
 use Rattle.deriv_laws.specs.Discharge.{alike}
@@ -74,9 +74,5 @@ row_value_at n r i = let e : 1 + i ≡ i + 1 = omega arith in range_value (lette
 pub letter_there : (n r i : ℕ) (b : Bool) → i < n → b ≡ letter_in_row n r (i + 1) → b ≡ get_or (row_values n r) i false
 letter_there n r i b h e = e ∙ sym (row_value_at n r i ∙ ap (λ c. c && letter_in_row n r (i + 1)) (lt-ltb i n h))
 
-none_there : (n r i : ℕ) (c : Bool) → nat_lt i n ≡ c → n ≤ i → nat_lt i n ≡ get_or (row_values n r) i false
-none_there n r i true e h = absurd (omega (arith, h, ltb-true i n e))
-none_there n r i false e h = e ∙ sym (row_value_at n r i ∙ ap (λ c. c && letter_in_row n r (i + 1)) e)
-
-pub no_letter_there : (n r i : ℕ) → n ≤ i → nat_lt i n ≡ get_or (row_values n r) i false
-no_letter_there n r i h = none_there n r i (nat_lt i n) refl h
+pub no_letter_there : (n r i : ℕ) → n ≤ i → false ≡ get_or (row_values n r) i false
+no_letter_there n r i h = sym (row_value_at n r i ∙ ap (λ c. c && letter_in_row n r (i + 1)) (le-ltb i n h))

@@ -13,9 +13,6 @@ AreLeft f n i = filter f (rows n) ≡ filter f (range_with_len (i + 1) (2 ^ n - 
 next_row : (m i : ℕ) → i < m → range_with_len (i + 1) (m - i) ≡ (i + 1) ∷ range_with_len (i + 1 + 1) (m - (i + 1))
 next_row m i h = let e : m - i ≡ suc (m - (i + 1)) = omega (arith, h) in ap (λ k. range_with_len (i + 1) k) e
 
-pub all_left_at_first : (f : ℕ → Bool) (n : ℕ) → AreLeft f n 0
-all_left_at_first f n = let one : 1 ≡ 0 + 1 = omega arith in let whole : 2 ^ n ≡ 2 ^ n - 0 = omega arith in ap (λ j. filter f (range_with_len j (2 ^ n))) one ∙ ap (λ m. filter f (range_with_len (0 + 1) m)) whole
-
 pub row_passed : (f : ℕ → Bool) (n i : ℕ) → i < 2 ^ n → f (i + 1) ≡ false → AreLeft f n i → AreLeft f n (i + 1)
 row_passed f n i h fails left =
     left ∙ ap (λ rs. filter f rs) (next_row (2 ^ n) i h) ∙ ap (λ b. cond b ((i + 1) ∷ filter f (range_with_len (i + 1 + 1) (2 ^ n - (i + 1)))) (filter f (range_with_len (i + 1 + 1) (2 ^ n - (i + 1))))) fails
@@ -25,5 +22,5 @@ row_found f n i h passes left =
     sym (ap answer_by
     (left ∙ ap (λ rs. filter f rs) (next_row (2 ^ n) i h) ∙ ap (λ b. cond b ((i + 1) ∷ filter f (range_with_len (i + 1 + 1) (2 ^ n - (i + 1)))) (filter f (range_with_len (i + 1 + 1) (2 ^ n - (i + 1))))) passes))
 
-pub none_found : (f : ℕ → Bool) (n i : ℕ) → 2 ^ n ≤ i → AreLeft f n i → a.Yes ≡ answer_by (filter f (rows n))
-none_found f n i h left = let over : 2 ^ n - i ≡ 0 = omega (arith, h) in sym (ap answer_by (left ∙ ap (λ k. filter f (range_with_len (i + 1) k)) over))
+pub past_rows : (f : ℕ → Bool) (n i : ℕ) → 2 ^ n ≤ i → AreLeft f n i → AreLeft f n (i + 1)
+past_rows f n i h left = let over : 2 ^ n - i ≡ 0 = omega (arith, h) in let still : 2 ^ n - (i + 1) ≡ 0 = omega (arith, h) in left ∙ ap (λ k. filter f (range_with_len (i + 1) k)) over ∙ sym (ap (λ k. filter f (range_with_len (i + 1 + 1) k)) still)

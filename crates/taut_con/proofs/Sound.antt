@@ -1,10 +1,10 @@
--- A closed goal to which the answer is Yes is derivable from the premises, one case for each row.
+-- A statement as goal to which the answer is Yes is derivable from the premises, one case for each row.
 use Rattle.std.proofs.Common.{◌≡◌, ℕ, ◌+◌, List, [], ◌∷◌, ◌++◌, length, refl, ap, sym, ◌∙◌, subst, Bool, true, false, true≢false, IsTrue, Contains, arith}
 use Rattle.std.specs.Prelude.{not, ◌&&◌, cond, filter, nat_lt, Result, Ok, IfOk}
 use Rattle.std.specs.List.{flat_map, list_all}
 use Rattle.fol_core.specs.declared.sent.Sent.{Sent}
-use Rattle.fol_core.specs.Closed.{closed}
-use Rattle.fol_core.proofs.Closing.{closed_not}
+use Rattle.fol_core.specs.Statements.{statement, AreStatements}
+use Rattle.fol_core.proofs.Stating.{stated_not}
 use Rattle.deriv_laws.specs.Derivable.{Der}
 use Rattle.deriv_laws.proofs.Members.{contains_here, contains_there, contains_cases, contains_left, contains_right, all_given, all_each}
 use Rattle.deriv_laws.proofs.Laws.{assume}
@@ -15,9 +15,9 @@ use Rattle.taut_con.specs.Letters.{letter_occurrences, letters}
 use Rattle.taut_con.specs.Rows.{rows}
 use Rattle.taut_con.specs.Values.{valuation, value}
 use Rattle.taut_con.specs.Answer.{refutes, is_countermodel, answer_by}
-use Rattle.taut_con.specs.Laws.{AreClosed, YesIsDerivable}
+use Rattle.taut_con.specs.Laws.{YesIsDerivable}
 use Rattle.taut_con.proofs.Deciding.{signed, decided}
-use Rattle.taut_con.proofs.Cases.{literals, by_rows, literal_there, in_distinct, distinct_closed, both_closed, all_letters_closed, letters_closed, letter_among}
+use Rattle.taut_con.proofs.Cases.{literals, by_rows, literal_there, in_distinct, distinct_stated, both_stated, all_letters_stated, letters_stated, letter_among}
 use Rattle.taut_con.proofs.Encoding.{row_of, is_row, row_among}
 
 -- no row is left where none is a countermodel
@@ -58,7 +58,7 @@ false_premise f [] e = absurd (true≢false e)
 false_premise f (p ∷ ps) e = one_false f p ps (f p) refl e (λ k. false_premise f ps k)
 
 not_refuted : (gs ps : List Sent) (g : Sent) (v : Sent → Bool) (c d : Bool) → list_all (value v) ps ≡ c → value v g ≡ d → (c && not d) ≡ false →
-    ((p : Sent) → Contains ps p → Der gs p) → ((p : Sent) → Contains ps p → Der gs (signed (value v p) p)) → Der gs (signed (value v g) g) → IsTrue (closed g) → Der gs g
+    ((p : Sent) → Contains ps p → Der gs p) → ((p : Sent) → Contains ps p → Der gs (signed (value v p) p)) → Der gs (signed (value v g) g) → IsTrue (statement g) → Der gs g
 not_refuted gs ps g v c true h k e given each goal w = subst (λ b. Der gs (signed b g)) k goal
 not_refuted gs ps g v true false h k e given each goal w = absurd (true≢false e)
 not_refuted gs ps g v false false h k e given each goal w =
@@ -70,7 +70,7 @@ not_refuted gs ps g v false false h k e given each goal w =
 abbrev all_of : List Sent → Sent → List Sent
 all_of ps g = ps ++ g ∷ []
 
-in_one_row : (ps : List Sent) (g : Sent) → AreClosed ps → IsTrue (closed g) → (bs : List Bool) → length bs ≡ length (letters (all_of ps g)) →
+in_one_row : (ps : List Sent) (g : Sent) → AreStatements ps → IsTrue (statement g) → (bs : List Bool) → length bs ≡ length (letters (all_of ps g)) →
     refutes (valuation (letters (all_of ps g)) bs) ps g ≡ false → Der (literals (letters (all_of ps g)) bs ++ ps) g
 in_one_row ps g c k bs e none =
     let ss : List Sent = all_of ps g in
@@ -78,20 +78,20 @@ in_one_row ps g c k bs e none =
     let v : Sent → Bool = valuation ls bs in
     let gs : List Sent = literals ls bs ++ ps in
     let lettered : (s l : Sent) → Contains ss s → Contains (letter_occurrences s) l → Contains ls l = λ s l i j. in_distinct (flat_map letter_occurrences ss) l (letter_among ss s l i j) in
-    let literal : (s l : Sent) → Contains ss s → IsTrue (closed s) → Contains (letter_occurrences s) l → Der gs (signed (v l) l) =
+    let literal : (s l : Sent) → Contains ss s → IsTrue (statement s) → Contains (letter_occurrences s) l → Der gs (signed (v l) l) =
     λ s l i w j. assume gs (signed (v l) l) (contains_left (literals ls bs) ps (signed (v l) l) (literal_there ls bs l e (lettered s l i j)))
-    (signed_closed (v l) l (all_each (λ x. IsTrue (closed x)) (letter_occurrences s) l (letters_closed s w) j)) in
-    let settled : (s : Sent) → Contains ss s → IsTrue (closed s) → Der gs (signed (value v s) s) =
+    (signed_stated (v l) l (all_each (λ x. IsTrue (statement x)) (letter_occurrences s) l (letters_stated s w) j)) in
+    let settled : (s : Sent) → Contains ss s → IsTrue (statement s) → Der gs (signed (value v s) s) =
     λ s i w. decided gs v s w (all_given (λ l. Der gs (signed (v l) l)) (letter_occurrences s) (λ l j. literal s l i w j)) in
     not_refuted gs ps g v (list_all (value v) ps) (value v g) refl refl none
-    (λ p i. assume gs p (contains_right (literals ls bs) ps p i) (all_each (λ x. IsTrue (closed x)) ps p c i))
-    (λ p i. settled p (contains_left ps (g ∷ []) p i) (all_each (λ x. IsTrue (closed x)) ps p c i))
+    (λ p i. assume gs p (contains_right (literals ls bs) ps p i) (all_each (λ x. IsTrue (statement x)) ps p c i))
+    (λ p i. settled p (contains_left ps (g ∷ []) p i) (all_each (λ x. IsTrue (statement x)) ps p c i))
     (settled g (contains_right ps (g ∷ []) g (contains_here g [])) k)
     k
   where
-    signed_closed : (b : Bool) (l : Sent) → IsTrue (closed l) → IsTrue (closed (signed b l))
-    signed_closed true l w = w
-    signed_closed false l w = closed_not l [] ∙ w
+    signed_stated : (b : Bool) (l : Sent) → IsTrue (statement l) → IsTrue (statement (signed b l))
+    signed_stated true l w = w
+    signed_stated false l w = stated_not l [] ∙ w
 
 -- all rows
 
@@ -101,7 +101,7 @@ yes_derivable ps g c k says =
     let ls : List Sent = letters ss in
     let n : ℕ = length ls in
     let none : filter (is_countermodel ls ps g) (rows n) ≡ [] = none_left (filter (is_countermodel ls ps g) (rows n)) (few_enough (nat_lt 16 n) n (answer_by (filter (is_countermodel ls ps g) (rows n))) says) in
-    by_rows ps g k ls (distinct_closed (flat_map letter_occurrences ss) (all_letters_closed ss (both_closed ps (g ∷ []) c (k, tt))))
+    by_rows ps g k ls (distinct_stated (flat_map letter_occurrences ss) (all_letters_stated ss (both_stated ps (g ∷ []) c (k, tt))))
     (λ bs e. in_one_row ps g c k bs e
     (subst (λ xs. refutes (valuation ls xs) ps g ≡ false) (is_row n bs e) (none_passes (is_countermodel ls ps g) (rows n) (row_of bs + 1) none (row_among n bs e))))
 

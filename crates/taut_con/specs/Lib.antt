@@ -6,3 +6,4 @@ pub mod Answer
 pub mod Laws
 pub mod Gathered
 pub mod Compiled
+pub mod Words

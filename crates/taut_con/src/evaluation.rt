@@ -1,56 +1,67 @@
-ghost use Rattle.std.specs.Prelude.{◌≡◌, false, get_or};
+ghost use Rattle.std.specs.Prelude.{◌≡◌, ◌%◌, false, get_or};
 ghost use Rattle.std.specs.List.{list_any, list_all};
 ghost use Rattle.taut_con.specs.Rows.{row_values};
 ghost use Rattle.taut_con.specs.Compiled.{formula_value};
+ghost use Rattle.taut_con.specs.Words.{AreRows};
 
 use crate::formula::Formula;
-use crate::rows::letter_in_row;
+use crate::rows::letter_word;
+use bit_sets::BitSet;
 
-/// The value of the formula in a row of a table of so many letters.
-#[cycle(holds)]
-#[tactic(auto, using(crate::proofs::Compiling::formula_and, crate::proofs::Compiling::formula_or))]
-pub(crate) fn holds(formula: &Formula, letters: u32, row: u32) -> bool
-    ensures value { result ≡ formula_value (row_values letters row) formula.now }
+/// The rows in which the formula is true, of the 64 from row `base` on of a table of so many letters.
+#[cycle(rows)]
+pub(crate) fn rows_where(formula: &Formula, letters: u32, base: u32) -> BitSet
+    requires aligned { base % 64 ≡ 1 }
+    ensures rows { AreRows (λ r. formula_value (row_values letters r) formula.now) base result.bits }
 {
     match formula {
-        Formula::Letter(place) => place_holds(*place, letters, row),
-        Formula::Falsum => false,
-        Formula::Not(a) => !holds(a.get(), letters, row),
-        Formula::And(parts) => all_hold(parts.as_slice(), letters, row),
-        Formula::Or(parts) => some_hold(parts.as_slice(), letters, row),
-        Formula::If(a, b) => !holds(a.get(), letters, row) || holds(b.get(), letters, row),
-        Formula::Iff(a, b) => holds(a.get(), letters, row) == holds(b.get(), letters, row),
+        Formula::Letter(place) => rows_of_letter(*place, letters, base),
+        Formula::Falsum => BitSet::all_or_none(false),
+        Formula::Not(a) => rows_where(a.get(), letters, base).complement(),
+        Formula::And(parts) => rows_where_all(parts.as_slice(), letters, base),
+        Formula::Or(parts) => rows_where_some(parts.as_slice(), letters, base),
+        Formula::If(a, b) => rows_where(a.get(), letters, base)
+            .complement()
+            .union(rows_where(b.get(), letters, base)),
+        Formula::Iff(a, b) => rows_where(a.get(), letters, base)
+            .symmetric_difference(rows_where(b.get(), letters, base))
+            .complement(),
     }
 }
 
-/// Whether each of the formulas is true in the row.
-#[cycle(holds)]
-pub(crate) fn all_hold(formulas: &[Formula], letters: u32, row: u32) -> bool
-    ensures value { result ≡ list_all (formula_value (row_values letters row)) formulas.now }
+/// The rows in which each of the formulas is true.
+#[cycle(rows)]
+pub(crate) fn rows_where_all(formulas: &[Formula], letters: u32, base: u32) -> BitSet
+    requires aligned { base % 64 ≡ 1 }
+    ensures rows { AreRows (λ r. list_all (formula_value (row_values letters r)) formulas.now) base result.bits }
 {
+    let mut rows = BitSet::all_or_none(true);
     for formula in formulas {
-        if !holds(formula, letters, row) {
-            return false;
-        }
+        rows = rows.intersection(rows_where(formula, letters, base));
     }
-    true
+    rows
 }
 
-#[cycle(holds)]
-fn some_hold(formulas: &[Formula], letters: u32, row: u32) -> bool
-    ensures value { result ≡ list_any (formula_value (row_values letters row)) formulas.now }
+#[cycle(rows)]
+fn rows_where_some(formulas: &[Formula], letters: u32, base: u32) -> BitSet
+    requires aligned { base % 64 ≡ 1 }
+    ensures rows { AreRows (λ r. list_any (formula_value (row_values letters r)) formulas.now) base result.bits }
 {
+    let mut rows = BitSet::all_or_none(false);
     for formula in formulas {
-        if holds(formula, letters, row) {
-            return true;
-        }
+        rows = rows.union(rows_where(formula, letters, base));
     }
-    false
+    rows
 }
 
-/// The value of the letter at a place, from 0, in the row; false past the last letter.
-fn place_holds(place: usize, letters: u32, row: u32) -> bool
-    ensures value { result ≡ get_or (row_values letters row) place false }
+/// The rows in which the letter at a place, from 0, is true; none past the last letter.
+pub(crate) fn rows_of_letter(place: usize, letters: u32, base: u32) -> BitSet
+    requires aligned { base % 64 ≡ 1 }
+    ensures rows { AreRows (λ r. get_or (row_values letters r) place false) base result.bits }
 {
-    place < letters as usize && letter_in_row(letters, row, place as u32 + 1)
+    if place < letters as usize {
+        letter_word(letters, base, place as u32 + 1)
+    } else {
+        BitSet::all_or_none(false)
+    }
 }

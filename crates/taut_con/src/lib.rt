@@ -8,9 +8,8 @@ mod formula;
 mod laws;
 mod letters;
 mod rows;
-#[cfg(test)]
-mod tests;
 mod values;
+mod words;
 
 pub use answer::TautAnswer;
 pub use consequence::taut_con;
@@ -18,3 +17,4 @@ pub use laws::tautology_laws;
 pub use letters::letters_of;
 pub use rows::letter_in_row;
 pub use values::truth_value;
+pub use words::word_values;

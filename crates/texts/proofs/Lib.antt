@@ -2,3 +2,4 @@ pub mod Trimming
 pub mod Splitting
 pub mod Counting
 pub mod Cutting
+pub mod Searching

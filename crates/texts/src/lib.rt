@@ -5,8 +5,6 @@ mod blanks;
 mod cuts;
 mod lines;
 mod numbers;
-#[cfg(test)]
-mod tests;
 
 pub use blanks::{after_blank, trim, trim_end, trim_start};
 pub use cuts::{after_prefix, cut};

@@ -136,14 +136,3 @@ pub(crate) fn run_tool<T: Tool, S: Source, W: Sink>(
     };
     say(&reply, output)
 }
-
-#[cfg(test)]
-mod cuts;
-#[cfg(test)]
-mod play_tests;
-#[cfg(test)]
-mod table_tests;
-#[cfg(test)]
-mod tests;
-#[cfg(test)]
-mod world_tests;

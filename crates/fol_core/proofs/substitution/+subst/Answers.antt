@@ -8,7 +8,7 @@ use Rattle.fol_core.proofs.substitution.+subst.Goals as goal
 
 pub put_into-returns-in_ok-put_into_all-in-And : goal.put_into-returns-in_ok-put_into_all-in-And
 put_into-returns-in_ok-put_into_all-in-And t c =
-    let x = c.args.var.now in let n = c.args.name.now in let free = c.args.free in
+    let x = c.args.var.now in let n = c.args.term.now in let free = c.args.free in
     record {
       value = ap And c.in_ok-put_into_all-in-And.ensures.value
           ∙ sym (subst_and x n c.in-And.parts free) ∙ ap (λ (s : Sent). subst_where x n s free) (sym c.in-And.is);
@@ -16,7 +16,7 @@ put_into-returns-in_ok-put_into_all-in-And t c =
 
 pub put_into-returns-in_ok-put_into_all-in-Or : goal.put_into-returns-in_ok-put_into_all-in-Or
 put_into-returns-in_ok-put_into_all-in-Or t c =
-    let x = c.args.var.now in let n = c.args.name.now in let free = c.args.free in
+    let x = c.args.var.now in let n = c.args.term.now in let free = c.args.free in
     record {
       value = ap Or c.in_ok-put_into_all-in-Or.ensures.value
           ∙ sym (subst_or x n c.in-Or.parts free) ∙ ap (λ (s : Sent). subst_where x n s free) (sym c.in-Or.is);

@@ -9,13 +9,13 @@ returns-then-text-gt-MOST_BYTES-clause-refused c = long_refused c.args.text.now 
 
 pub returns-in_err-tokens-clause-exact : goal.returns-in_err-tokens-clause-exact
 returns-in_err-tokens-clause-exact c =
-    let p = err_from_is_err_and c.from_residual.result c.from_residual.ensures.1 in
+    let p = err_from_is_err_and c.from_residual-in_err-tokens.result c.from_residual-in_err-tokens.ensures.1 in
     rw (p.1, p.2)
     (exact_fault c.args.text.now c.in_err-tokens.field-0.0 (byte_refused c.args.text.now c.in_err-tokens.field-0.0 c.if-text-gt-MOST_BYTES.false c.in_err-tokens.ensures.bad))
 
 pub returns-in_err-tokens-clause-refused : goal.returns-in_err-tokens-clause-refused
 returns-in_err-tokens-clause-refused c =
-    let p = err_from_is_err_and c.from_residual.result c.from_residual.ensures.1 in
+    let p = err_from_is_err_and c.from_residual-in_err-tokens.result c.from_residual-in_err-tokens.ensures.1 in
     rw (p.1, p.2) (byte_refused c.args.text.now c.in_err-tokens.field-0.0 c.if-text-gt-MOST_BYTES.false c.in_err-tokens.ensures.bad)
 
 pub returns-in_err-sentence-clause-exact : goal.returns-in_err-sentence-clause-exact
@@ -50,3 +50,6 @@ pub returns-clause-exact : goal.returns-clause-exact
 returns-clause-exact c =
     exact_sentence c.args.text.now c.in_ok-sentence.sentence
     (is_readable c.args.text.now c.in_ok-tokens.tokens c.as_slice.result.now c.in_ok-sentence.sentence c.if-text-gt-MOST_BYTES.false c.in_ok-tokens.ensures.tokens c.as_slice.ensures.value c.in_ok-sentence.ensures.read (c.in_ok-fit.ensures.fits refl))
+
+pub returns-in-Some-clause-exact : goal.returns-in-Some-clause-exact
+returns-in-Some-clause-exact c = exact_sentence c.args.text.now c.in-Some.found (rw c.in-Some.is at c.in_ok-found.ensures.read)
