@@ -12,6 +12,7 @@ mod mem_source;
 mod shelf;
 
 pub use adapters::{Reading, Writing};
+pub use calls::Calls;
 pub use edges::{Failed, Sink, Source};
 pub use folder::Folder;
 pub use mem_shelf::{Labelled, MemShelf};

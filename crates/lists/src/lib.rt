@@ -2,10 +2,13 @@
 #![tactic(auto)]
 
 mod bytes;
+mod copied;
 mod listed;
 mod nonempty;
+mod order;
 mod several;
 
+pub use copied::Copied;
 pub use listed::Listed;
 pub use nonempty::Nonempty;
 pub use several::Several;

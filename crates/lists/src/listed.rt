@@ -1,4 +1,4 @@
-ghost use Rattle.std.specs.Prelude.{◌≡◌, [], ◌∷◌, ◌++◌, length, IfErr, OnOk, OnErr};
+ghost use Rattle.std.specs.Prelude.{◌≡◌, [], ◌∷◌, ◌++◌, length, take, IfErr, OnOk, OnErr};
 
 use std::alloc::{AllocError, Global};
 use std::marker::Model;
@@ -89,5 +89,12 @@ impl<T: Drop> Listed<T> {
     {
         let Listed { mut items } = more;
         self.items.append(&mut items)
+    }
+
+    /// Keeps the first `count` items, or all where there are fewer.
+    pub fn truncate(&mut self, count: usize)
+        ensures value { self.new ≡ take count self.old }
+    {
+        self.items.truncate(count);
     }
 }
