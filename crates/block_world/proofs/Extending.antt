@@ -15,14 +15,15 @@ use Rattle.block_world.specs.declared.junction.Junction.{Junction}
 use Rattle.block_world.specs.declared.junction.Junction.TheVariants.{Every, Any}
 use Rattle.block_world.specs.declared.table.Table.{Table}
 use Rattle.block_world.specs.Assignments.{Assignment, put}
-use Rattle.block_world.specs.BitSets.{has, HasAll, LacksOne, HasOne, HasNone, IsExtension}
+use Rattle.bit_sets.specs.BitSets.{has, HasAll, LacksOne, HasOne, HasNone}
+use Rattle.block_world.specs.inside.Extensions.{IsExtension}
 use Rattle.block_world.specs.Bound.{standing}
 use Rattle.block_world.specs.Tables.{bits_in, connect, join_two, joined, of_none, AreExtensions, AreGathered, IsGroup, IsJoin}
 use Rattle.block_world.specs.Truth.{val}
 use Rattle.block_world.specs.Worlds.{numbers}
 use Rattle.block_world.proofs.Forms.{val_and, val_or, val_if, val_iff, val_all, val_ex}
 use Rattle.block_world.proofs.Joining.{joined_none, joined_more, joined_next, joined_shifted}
-use Rattle.block_world.proofs.Sets.{all_decided, some_decided}
+use Rattle.block_world.proofs.Deciding.{all_decided, some_decided}
 use Rattle.block_world.proofs.Standings.{standing_one, standing_by_row, standing_by_column}
 
 pub same_extensions : (columns rows : ℕ) (f g : ℕ → ℕ → Bool) (t : Table) → ((r k : ℕ) → r < rows → f r k ≡ g r k) → AreExtensions columns rows f t → AreExtensions columns rows g t

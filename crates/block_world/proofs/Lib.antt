@@ -24,7 +24,7 @@ pub mod Putting
 pub mod Saturating
 pub mod Saying
 pub mod Scaling
-pub mod Sets
+pub mod Deciding
 pub mod Spreading
 pub mod Squaring
 pub mod Standings

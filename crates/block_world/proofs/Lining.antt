@@ -10,14 +10,14 @@ use Rattle.block_world.specs.declared.block.Block.{Block}
 use Rattle.block_world.specs.declared.predicate.Predicate.TheVariants.{Between}
 use Rattle.block_world.specs.declared.scales.Measure.{Measure}
 use Rattle.block_world.specs.declared.scales.Measure.TheVariants as m
-use Rattle.block_world.specs.BitSets.{has}
+use Rattle.bit_sets.specs.BitSets.{has}
 use Rattle.block_world.specs.Geometry.{is_on_board, is_between, is_inside, on_rising, square}
 use Rattle.block_world.specs.BoardLines.{line_at, measures_same, AreLines}
 use Rattle.block_world.specs.Predicates.{says}
 use Rattle.block_world.specs.Scales.{measure_of, IsSetOf}
 use Rattle.block_world.specs.Worlds.{block_at, in_order, IsWorld}
 use Rattle.block_world.proofs.Scaling.{each_of, place_of, block_read}
-use Rattle.block_world.proofs.Sets.{empty_has}
+use Rattle.bit_sets.proofs.Sets.{empty_has}
 
 on_board : (w : List Block) → IsWorld w → (k : ℕ) (b : Block) → slice_get w k ≡ Some b → is_on_board b ≡ true
 on_board w h = each_of is_on_board w h.on_board

@@ -2,8 +2,9 @@
 use Rattle.std.proofs.Common.{◌≡◌, ◌≢◌, ℕ, ◌+◌, ◌<◌, ◌≤◌, Bool, false, sym, ap, ◌∙◌, subst, arith, ◌⊎◌, inl, inr}
 use Rattle.std.specs.Prelude.{◌||◌}
 use Rattle.std.proofs.lemmas.Bool.{cases_order}
-use Rattle.block_world.specs.BitSets.{has, IsExtension}
-use Rattle.block_world.proofs.Sets.{empty_has}
+use Rattle.bit_sets.specs.BitSets.{has}
+use Rattle.block_world.specs.inside.Extensions.{IsExtension}
+use Rattle.bit_sets.proofs.Sets.{empty_has}
 
 -- Of the first places, so many, the set has those of which the function is true, and it has no further ones.
 pub record IsMarked (f : ℕ → Bool) (count : ℕ) (bits : ℕ) : Type 0 where

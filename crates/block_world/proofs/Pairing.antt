@@ -3,7 +3,8 @@ use Rattle.std.proofs.Common.{◌≡◌, ℕ, ◌<◌, ◌≤◌, Bool, List, le
 use Rattle.std.specs.Prelude.{◌/◌}
 use Rattle.std.proofs.lemmas.Nat.{mod_below}
 use Rattle.block_world.specs.declared.block.Block.{Block}
-use Rattle.block_world.specs.BitSets.{has, IsExtension}
+use Rattle.bit_sets.specs.BitSets.{has}
+use Rattle.block_world.specs.inside.Extensions.{IsExtension}
 use Rattle.block_world.specs.Digits.{digit_of}
 
 pub at_digit : (w : List Block) (f : ℕ → Bool) (set stride r : ℕ) → 0 < length w → length w ≤ 64 → IsExtension (length w) f set → has set (digit_of (length w) stride r) ≡ f (digit_of (length w) stride r)

@@ -9,16 +9,17 @@ use Rattle.block_world.specs.declared.block.Shape.{Shape}
 use Rattle.block_world.specs.declared.block.Shape.TheVariants as sh
 use Rattle.block_world.specs.declared.block.Size.{Size}
 use Rattle.block_world.specs.declared.block.Size.TheVariants as sz
-use Rattle.block_world.specs.declared.bit_set.BitSet.{BitSet}
+use Rattle.bit_sets.specs.declared.bit_set.BitSet.{BitSet}
 use Rattle.block_world.specs.declared.scales.Measure.{Measure}
 use Rattle.block_world.specs.declared.scales.Measure.TheVariants as m
-use Rattle.block_world.specs.BitSets.{has, IsExtension}
+use Rattle.bit_sets.specs.BitSets.{has}
+use Rattle.block_world.specs.inside.Extensions.{IsExtension}
 use Rattle.block_world.specs.Geometry.{is_on_board, is_place, faces, rank, apart, share_side}
 use Rattle.block_world.specs.Scales.{measure_of, OfEach, IsSetOf, AreBelow}
 use Rattle.block_world.specs.Truth.{are_alike}
 use Rattle.block_world.specs.Worlds.{block_at}
 use Rattle.block_world.proofs.Marking.{IsMarked}
-use Rattle.block_world.proofs.Sets.{full_has}
+use Rattle.bit_sets.proofs.Sets.{full_has}
 
 -- scales
 

@@ -5,7 +5,7 @@ use Rattle.std.proofs.Math.Nat.{div-eq-sub-div, div-mul-le_self, div-zero, zero-
 use Rattle.std.proofs.lemmas.Nat.{le-div}
 use Rattle.std.proofs.lemmas.Bool.{cases_lt, cases_order, lt-ltb, le-ltb, le-leb, lt-leb, eq-eqb, ne_eqb}
 use native.Mathlib.Nat.{div-eq_of_lt}
-use Rattle.block_world.specs.BitSets.{has}
+use Rattle.bit_sets.specs.BitSets.{has}
 use Rattle.block_world.specs.Digits.{digit_of}
 
 left_only : (a b : Bool) → b ≡ false → (a || b) ≡ a

@@ -5,7 +5,7 @@ use Rattle.block_world.specs.declared.betweenness.Lines.{Lines}
 use Rattle.block_world.specs.declared.block.Block.{Block}
 use Rattle.block_world.specs.declared.scales.Measure.{Measure}
 use Rattle.block_world.specs.declared.scales.Measure.TheVariants.{Column, Row, Rising, Falling}
-use Rattle.block_world.specs.BitSets.{has}
+use Rattle.bit_sets.specs.BitSets.{has}
 use Rattle.block_world.specs.Scales.{measure_of, IsSetOf}
 use Rattle.block_world.specs.Worlds.{block_at, IsWorld}
 

@@ -1,5 +1,5 @@
 pub mod Geometry
-pub mod BitSets
+pub mod inside
 pub mod Predicates
 pub mod Endings
 pub mod Worlds

@@ -7,7 +7,7 @@ use Rattle.block_world.specs.declared.digits.Referent.{Referent}
 use Rattle.block_world.specs.declared.predicate.Predicate.TheVariants.{Between}
 use Rattle.block_world.specs.declared.relation.Relation.{Relation}
 use Rattle.block_world.specs.declared.table.Table.{Table}
-use Rattle.block_world.specs.BitSets.{IsExtension}
+use Rattle.block_world.specs.inside.Extensions.{IsExtension}
 use Rattle.block_world.specs.Digits.{digit_of, number_by}
 use Rattle.block_world.specs.Predicates.{says}
 use Rattle.block_world.specs.Relations.{relates}

@@ -2,11 +2,11 @@
 use Rattle.std.specs.Prelude.{◌≡◌, ℕ, ◌+◌, ◌-◌, ◌<◌, Bool, true, nat_lt, List, [], ◌∷◌, Some}
 use Rattle.std.specs.List.{slice_get}
 use Rattle.block_world.specs.declared.block.Block.{Block}
-use Rattle.block_world.specs.declared.bit_set.BitSet.{BitSet}
+use Rattle.bit_sets.specs.declared.bit_set.BitSet.{BitSet}
 use Rattle.block_world.specs.declared.scales.Measure.{Measure}
 use Rattle.block_world.specs.declared.scales.Measure.TheVariants.{Column, Row, Rank, Faces, Rising, Falling}
 use Rattle.block_world.specs.declared.scales.Scales.{Scales}
-use Rattle.block_world.specs.BitSets.{has}
+use Rattle.bit_sets.specs.BitSets.{has}
 use Rattle.block_world.specs.Geometry.{faces, rank}
 
 -- What is measured of a block. A diagonal that rises to the right has one difference of row and column, to which eight is

@@ -6,7 +6,8 @@ use Rattle.block_world.specs.declared.junction.Connective.TheVariants.{And, Or, 
 use Rattle.block_world.specs.declared.junction.Junction.{Junction}
 use Rattle.block_world.specs.declared.junction.Junction.TheVariants.{Every, Any}
 use Rattle.block_world.specs.declared.table.Table.{Table}
-use Rattle.block_world.specs.BitSets.{has, IsExtension}
+use Rattle.bit_sets.specs.BitSets.{has}
+use Rattle.block_world.specs.inside.Extensions.{IsExtension}
 use Rattle.block_world.specs.Truth.{are_alike}
 
 -- The bits of the set in a row.

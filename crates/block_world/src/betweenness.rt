@@ -1,14 +1,14 @@
 ghost use Rattle.std.specs.Prelude.{◌≡◌, ◌+◌, ◌<◌, ◌≤◌, ℕ, true, List, length, [], ◌∷◌, IfSome, None, Some};
 ghost use Rattle.block_world.specs.declared.block.Block.{Block as Standing};
 ghost use Rattle.block_world.specs.declared.predicate.Predicate.TheVariants.{Between};
-ghost use Rattle.block_world.specs.BitSets.{has};
+ghost use Rattle.bit_sets.specs.BitSets.{has};
 ghost use Rattle.block_world.specs.BoardLines.{line_at, AreLines};
 ghost use Rattle.block_world.specs.Predicates.{says};
 ghost use Rattle.block_world.specs.Scales.{IsSetOf};
 ghost use Rattle.block_world.specs.Tables.{bits_in};
 ghost use Rattle.block_world.specs.Worlds.{block_at};
 
-use crate::bit_set::BitSet;
+use bit_sets::BitSet;
 use crate::board::{World, block_count};
 use crate::scales::Measure;
 use crate::table::Table;

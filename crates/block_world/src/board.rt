@@ -5,7 +5,7 @@ ghost use Rattle.block_world.specs.Worlds.{IsWorld};
 ghost use Rattle.block_world.specs.Answers.{is_borne};
 ghost use Rattle.block_world.specs.Scales.{measure_of, AreBelow};
 
-use crate::bit_set::BitSet;
+use bit_sets::BitSet;
 use crate::block::Block;
 use crate::scales::{Measure, Scales};
 use std::marker::Model;

@@ -1,11 +1,12 @@
 ghost use Rattle.std.specs.Prelude.{◌≡◌, ◌<◌, ◌≤◌, ◌+◌, ◌*◌, length};
 ghost use Rattle.std.specs.List.{range_with_len};
-ghost use Rattle.block_world.specs.BitSets.{has, IsExtension};
+ghost use Rattle.bit_sets.specs.BitSets.{has};
+ghost use Rattle.block_world.specs.inside.Extensions.{IsExtension};
 ghost use Rattle.block_world.specs.Digits.{digit_of};
 ghost use Rattle.block_world.specs.Relations.{relates};
 ghost use Rattle.block_world.specs.Tables.{joined, AreGathered};
 
-use crate::bit_set::BitSet;
+use bit_sets::BitSet;
 use crate::board::{World, block_count};
 use crate::junction::Junction;
 use crate::relation::Relation;

@@ -7,7 +7,7 @@ ghost use Rattle.block_world.specs.Truth.{val};
 ghost use Rattle.block_world.specs.Worlds.{numbers};
 
 use crate::atomic::{Atomic, atomic_of};
-use crate::bit_set::BitSet;
+use bit_sets::BitSet;
 use crate::board::{World, block_count};
 use crate::bound::{Bound, referent_of};
 use crate::extent::{COLUMNS, Extent, ROWS};

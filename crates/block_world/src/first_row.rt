@@ -1,9 +1,9 @@
 ghost use Rattle.std.specs.Prelude.{◌≡◌, ◌<◌, ◌≤◌, length};
-ghost use Rattle.block_world.specs.BitSets.{IsExtension};
+ghost use Rattle.block_world.specs.inside.Extensions.{IsExtension};
 ghost use Rattle.block_world.specs.Referents.{value_by};
 
 use crate::atomic::Atomic;
-use crate::bit_set::BitSet;
+use bit_sets::BitSet;
 use crate::board::{World, block_count};
 use crate::columns::{spread, spread_pairs};
 use crate::digits::Referent::{ByColumn, One};

@@ -1,8 +1,8 @@
 ghost use Rattle.std.specs.Prelude.{◌≡◌, ◌<◌, ℕ};
-ghost use Rattle.block_world.specs.BitSets.{has};
+ghost use Rattle.bit_sets.specs.BitSets.{has};
 ghost use Rattle.block_world.specs.Tables as tables;
 
-use crate::bit_set::BitSet;
+use bit_sets::BitSet;
 
 /// How many values are joined to one.
 #[derive(Clone, Copy)]
@@ -15,7 +15,7 @@ pub enum Junction {
 
 impl Junction {
     /// What is made of no values, at each place.
-    #[tactic(auto, using(crate::proofs::Sets::full_has, crate::proofs::Sets::empty_has))]
+    #[tactic(auto, using(bit_sets::proofs::Sets::full_has, bit_sets::proofs::Sets::empty_has))]
     pub(crate) fn of_none(self) -> BitSet
         ensures value { (k : ℕ) → k < 64 → has result.bits k ≡ tables.of_none self }
     {

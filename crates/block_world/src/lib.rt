@@ -4,7 +4,6 @@
 mod answer;
 mod atomic;
 mod betweenness;
-mod bit_set;
 mod block;
 mod board;
 mod bound;

@@ -1,5 +1,5 @@
 ghost use Rattle.std.specs.Prelude.{◌≡◌, ◌<◌, ◌≤◌, ◌+◌, ℕ, length};
-ghost use Rattle.block_world.specs.BitSets.{has};
+ghost use Rattle.bit_sets.specs.BitSets.{has};
 ghost use Rattle.block_world.specs.Digits.{digit_of};
 ghost use Rattle.block_world.specs.Referents.{value_by, ArePairsInColumns};
 ghost use Rattle.block_world.specs.Tables.{bits_in, AreExtensions};
@@ -7,7 +7,7 @@ ghost use Rattle.block_world.specs.declared.atomic.Atomic.TheVariants.{One, Two}
 ghost use Rattle.block_world.specs.declared.digits.Referent.TheVariants as ref;
 
 use crate::atomic::Atomic;
-use crate::bit_set::BitSet;
+use bit_sets::BitSet;
 use crate::board::{World, block_count};
 use crate::columns::spread;
 use crate::digits::{Referent, digit};

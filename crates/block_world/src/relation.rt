@@ -1,7 +1,8 @@
 ghost use Rattle.std.specs.Prelude.{◌≡◌, ◌<◌, ◌≤◌, ◌+◌, ◌==◌, ℕ, List, length, [], ◌∷◌};
 ghost use Rattle.block_world.specs.declared.block.Block.{Block as Standing};
 ghost use Rattle.block_world.specs.declared.predicate.Predicate.TheVariants.{Between as StandsBetween};
-ghost use Rattle.block_world.specs.BitSets.{has, IsExtension};
+ghost use Rattle.bit_sets.specs.BitSets.{has};
+ghost use Rattle.block_world.specs.inside.Extensions.{IsExtension};
 ghost use Rattle.block_world.specs.Predicates.{says};
 ghost use Rattle.block_world.specs.Referents.{ArePairs};
 ghost use Rattle.block_world.specs.Relations.{about, relates};
@@ -9,7 +10,7 @@ ghost use Rattle.block_world.specs.Tables.{bits_in};
 ghost use Rattle.block_world.specs.Worlds.{block_at};
 
 use crate::betweenness::{put_around, put_behind, put_between};
-use crate::bit_set::BitSet;
+use bit_sets::BitSet;
 use crate::board::{World, block_count};
 use crate::predicate::{Predicate, is_between};
 use crate::table::Table;

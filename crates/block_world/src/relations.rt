@@ -4,7 +4,7 @@ ghost use Rattle.block_world.specs.Predicates as spec;
 ghost use Rattle.block_world.specs.Scales.{measure_of, IsSetOf};
 ghost use Rattle.block_world.specs.Worlds.{block_at};
 
-use crate::bit_set::BitSet;
+use bit_sets::BitSet;
 use crate::block::Block;
 use crate::board::World;
 use crate::predicate::Predicate;

@@ -3,7 +3,7 @@ ghost use Rattle.std.specs.List.{list_all, slice_get};
 ghost use Rattle.block_world.specs.Geometry.{is_on_board};
 ghost use Rattle.block_world.specs.Scales.{measure_of, scale_at, AreBelow, AreScales, IsSetOf};
 
-use crate::bit_set::BitSet;
+use bit_sets::BitSet;
 use crate::block::Block;
 
 /// What is measured of a block.

@@ -1,7 +1,7 @@
 ghost use Rattle.std.specs.Prelude.{◌≡◌, ◌<◌, ◌≤◌, ◌≢◌, ◌*◌, ◌+◌, ℕ};
 ghost use Rattle.block_world.specs.Tables.{bits_in, IsComplement, IsGroup, IsJoin, AreGathered};
 
-use crate::bit_set::BitSet;
+use bit_sets::BitSet;
 use crate::columns::gathered;
 use crate::junction::{Connective, Junction};
 

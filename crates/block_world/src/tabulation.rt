@@ -4,7 +4,7 @@ ghost use Rattle.block_world.specs.Referents.{value_by};
 ghost use Rattle.block_world.specs.Tables.{bits_in, AreExtensions};
 
 use crate::atomic::Atomic;
-use crate::bit_set::BitSet;
+use bit_sets::BitSet;
 use crate::board::{World, block_count};
 use crate::digits::Digits;
 use crate::extent::Extent;

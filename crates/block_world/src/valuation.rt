@@ -2,13 +2,13 @@ ghost use Rattle.std.specs.Prelude.{◌≡◌, ◌+◌, length, map};
 ghost use Rattle.std.specs.List.{list_all, list_any};
 ghost use Rattle.block_world.specs.Predicates as predicates;
 ghost use Rattle.block_world.specs.Assignments.{own_names, put, block_of as stands_for};
-ghost use Rattle.block_world.specs.BitSets.{IsExtension};
+ghost use Rattle.block_world.specs.inside.Extensions.{IsExtension};
 ghost use Rattle.block_world.specs.Worlds.{numbers};
 ghost use Rattle.block_world.specs.Places.{given};
 ghost use Rattle.block_world.specs.Truth as truth;
 
 use crate::answer::Place;
-use crate::bit_set::BitSet;
+use bit_sets::BitSet;
 use crate::block::Block;
 use crate::board::{World, block_count};
 use crate::bound::{Bound, number};

@@ -10,7 +10,8 @@ use Rattle.fitch_file.specs.TaskFaults.{IsFirstTaskFault}
 use Rattle.proof_check.specs.declared.verdict.Verdict.{Verdict}
 use Rattle.proof_check.specs.Judged.{IsVerdict}
 use Rattle.tutor_app.specs.Check.{check_answers, faulty_task, judged_proof}
-use Rattle.tutor_app.specs.Report.{verdict_reply, unreadable_reply, task_text}
+use Rattle.fault_words.specs.ProofFaults.{task_fault_text}
+use Rattle.tutor_app.specs.Report.{verdict_reply, unreadable_reply}
 use Rattle.tutor_app.specs.declared.tool.Reply.{Reply}
 
 -- where a task is read, the reply has the verdict
@@ -21,7 +22,7 @@ judged_answer bytes t (Ok reply) s (v, k, e) = subst (λ r. check_answers bytes 
 
 -- where none is, it has the fault
 pub faulty_answer : (bytes : List ℕ) (n : ℕ) (fault : TaskFault) (o : Result Reply AllocError) → (fault ≡ Memory) ⊎ IsFirstTaskFault bytes n fault →
-    IfOk o (λ (reply : Reply). (fault ≢ Memory) × (reply ≡ unreadable_reply n (task_text fault))) → IfOk o (λ reply. check_answers bytes reply)
+    IfOk o (λ (reply : Reply). (fault ≢ Memory) × (reply ≡ unreadable_reply n (task_fault_text fault))) → IfOk o (λ reply. check_answers bytes reply)
 faulty_answer bytes n fault (Err e) f h = tt
 faulty_answer bytes n fault (Ok reply) (inl f) h = absurd (h.0 f)
 faulty_answer bytes n fault (Ok reply) (inr f) h = subst (λ r. check_answers bytes r) (sym h.1) (faulty_task bytes n fault f)

@@ -14,7 +14,8 @@ use Rattle.sentence_lists.specs.declared.list.ListFault.{ListFault}
 use Rattle.sentence_lists.specs.declared.list.ListFault.TheVariants.{Sentence, TooManySentences, Memory}
 use Rattle.sentence_lists.specs.SentenceLines.{SpellAtMost, ListFails, refused_line as refused_here, one_too_many, past_blank, past_sentence}
 use Rattle.tutor_app.specs.World.{world_answers, answered_each, refused_line, answer_word, answer_lines}
-use Rattle.tutor_app.specs.Report.{unreadable_reply, list_text}
+use Rattle.fault_words.specs.SentenceFaults.{list_fault_text}
+use Rattle.tutor_app.specs.Report.{unreadable_reply}
 use Rattle.tutor_app.specs.Transfer.{input_limit}
 use Rattle.tutor_app.specs.declared.tool.Reply.{Reply}
 
@@ -52,7 +53,7 @@ too_many _ _ _ _ _ (past_sentence room place line ls s n f l h) e = omega (arith
 
 -- where the sentences aren't read, the reply names the least line that is refused as a sentence
 pub refused_answer : (w : List Block) (bytes : List ℕ) (n : ℕ) (fault : ListFault) (o : Result Reply AllocError) → length bytes ≤ input_limit → (fault ≡ Memory) ⊎ ListFails input_limit 1 (lines bytes) n fault →
-    IfOk o (λ (reply : Reply). (fault ≢ Memory) × (reply ≡ unreadable_reply n (list_text fault))) → IfOk o (λ reply. world_answers w bytes reply)
+    IfOk o (λ (reply : Reply). (fault ≢ Memory) × (reply ≡ unreadable_reply n (list_fault_text fault))) → IfOk o (λ reply. world_answers w bytes reply)
 refused_answer w bytes n fault (Err e) k f h = tt
 refused_answer w bytes n fault (Ok reply) k (inl f) h = absurd (h.0 f)
 refused_answer w bytes n (Sentence why) (Ok reply) k (inr f) h = subst (λ r. world_answers w bytes r) (sym h.1) (refused_line w bytes n why f)

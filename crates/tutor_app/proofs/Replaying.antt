@@ -16,7 +16,8 @@ use Rattle.play_text.specs.declared.play.PlayFault.{PlayFault}
 use Rattle.play_text.specs.declared.play.PlayFault.TheVariants.{Memory}
 use Rattle.play_text.specs.PlayText.{SpellsPlay}
 use Rattle.play_text.specs.PlayFaults.{IsFirstPlayFault}
-use Rattle.tutor_app.specs.Play.{play_answers, faulty_play, of_play, IsPlayReply, no_value, no_choice, was_played, refused_reply, game_fault_text, played_reply, play_fault_text}
+use Rattle.tutor_app.specs.Play.{play_answers, faulty_play, of_play, IsPlayReply, no_value, no_choice, was_played, refused_reply, played_reply}
+use Rattle.fault_words.specs.WorldFaults.{game_fault_text, play_fault_text}
 use Rattle.tutor_app.specs.Report.{unreadable_reply}
 use Rattle.tutor_app.specs.declared.tool.Reply.{Reply}
 

@@ -17,7 +17,8 @@ use Rattle.boole_table.specs.declared.fault.TableFault.TheVariants.{TooManyLette
 use Rattle.boole_table.specs.StandardTable.{standard_table}
 use Rattle.boole_table.specs.PrintedTable.{printed_table}
 use Rattle.tutor_app.specs.Table.{IsTableReply, no_sentence, many_letters, tabulated, table_answers, faulty_list, of_list, most_sentences, most_letters, letters_reply, table_reply}
-use Rattle.tutor_app.specs.Report.{unreadable_reply, list_text}
+use Rattle.fault_words.specs.SentenceFaults.{list_fault_text}
+use Rattle.tutor_app.specs.Report.{unreadable_reply}
 use Rattle.tutor_app.specs.declared.tool.Reply.{Reply}
 
 -- without a sentence
@@ -80,7 +81,7 @@ list_answer bytes ss (Ok reply) h k = of_list bytes ss reply h k
 
 -- and one that isn't
 pub unlisted_answer : (bytes : List ℕ) (n : ℕ) (fault : ListFault) (o : Result Reply AllocError) → (fault ≡ Memory) ⊎ ListFails most_sentences 1 (lines bytes) n fault →
-    IfOk o (λ (reply : Reply). (fault ≢ Memory) × (reply ≡ unreadable_reply n (list_text fault))) → IfOk o (λ reply. table_answers bytes reply)
+    IfOk o (λ (reply : Reply). (fault ≢ Memory) × (reply ≡ unreadable_reply n (list_fault_text fault))) → IfOk o (λ reply. table_answers bytes reply)
 unlisted_answer bytes n fault (Err e) f h = tt
 unlisted_answer bytes n fault (Ok reply) (inl f) h = absurd (h.0 f)
 unlisted_answer bytes n fault (Ok reply) (inr f) h = subst (λ r. table_answers bytes r) (sym h.1) (faulty_list bytes n fault f)

@@ -9,7 +9,8 @@ use Rattle.fitch_file.specs.TaskFaults.{IsFirstTaskFault}
 use Rattle.proof_check.specs.declared.verdict.Verdict.{Verdict}
 use Rattle.proof_check.specs.declared.verdict.Verdict.TheVariants.{Correct}
 use Rattle.proof_check.specs.Judged.{IsVerdict}
-use Rattle.tutor_app.specs.Report.{unreadable_reply, verdict_reply, task_text}
+use Rattle.fault_words.specs.ProofFaults.{task_fault_text}
+use Rattle.tutor_app.specs.Report.{unreadable_reply, verdict_reply}
 use Rattle.tutor_app.specs.Transfer.{ReadsAll}
 use Rattle.tutor_app.specs.declared.tool.Reply.{Reply}
 
@@ -20,7 +21,7 @@ check_words = codes "check" ∷ []
 -- The reply to these bytes: they write no task, and the reply names the first fault of the task text; or they write a
 -- task, and the reply has the verdict on the proof text behind it.
 pub data check_answers : List ℕ → Reply → Type 0 where
-  faulty_task : (bytes : List ℕ) (n : ℕ) (fault : TaskFault) → IsFirstTaskFault bytes n fault → check_answers bytes (unreadable_reply n (task_text fault))
+  faulty_task : (bytes : List ℕ) (n : ℕ) (fault : TaskFault) → IsFirstTaskFault bytes n fault → check_answers bytes (unreadable_reply n (task_fault_text fault))
   judged_proof : (bytes : List ℕ) (t : TaskText) (verdict : Verdict) → SpellsTask bytes t.task t.lines t.rest → IsVerdict t.task (drop t.rest bytes) verdict → check_answers bytes (verdict_reply t.lines verdict)
 
 -- These bytes write a task and a correct proof for it, and the goal has a natural-deduction tree from the premises.

@@ -9,7 +9,8 @@ use Rattle.fitch_file.proofs.Sentences.{sentence_laws}
 use Rattle.fitch_file.proofs.TaskOnce.{task_once, task_fault_once, task_not_faulty}
 use Rattle.proof_check.proofs.OneVerdict.{verdict_once}
 use Rattle.tutor_app.specs.Check.{check_answers, faulty_task, judged_proof}
-use Rattle.tutor_app.specs.Report.{verdict_reply, unreadable_reply, task_text}
+use Rattle.fault_words.specs.ProofFaults.{task_fault_text}
+use Rattle.tutor_app.specs.Report.{verdict_reply, unreadable_reply}
 use Rattle.tutor_app.specs.Reply.{IsReplyCode}
 use Rattle.tutor_app.specs.declared.tool.Reply.{Reply}
 
@@ -26,7 +27,7 @@ check_known _ _ (judged_proof bytes t v h k) = verdict_known t.lines v
 
 -- There is one reply at most to the same bytes.
 pub check_only : (bytes : List ℕ) (r q : Reply) → check_answers bytes r → check_answers bytes q → r ≡ q
-check_only _ _ _ (faulty_task bytes n f h) (faulty_task _ m g k) = let e = task_fault_once sentence_laws h m g k in ap₂ (λ i x. unreadable_reply i (task_text x)) e.number e.is
+check_only _ _ _ (faulty_task bytes n f h) (faulty_task _ m g k) = let e = task_fault_once sentence_laws h m g k in ap₂ (λ i x. unreadable_reply i (task_fault_text x)) e.number e.is
 check_only _ _ _ (faulty_task bytes n f h) (judged_proof _ t v k l) = absurd (task_not_faulty sentence_laws h t k)
 check_only _ _ _ (judged_proof bytes t v h i) (faulty_task _ m g k) = absurd (task_not_faulty sentence_laws k t h)
 check_only _ _ _ (judged_proof bytes t v h i) (judged_proof _ u w k l) =

@@ -12,3 +12,4 @@ pub mod Table
 pub mod TableLaws
 pub mod Play
 pub mod PlayLaws
+pub mod Running

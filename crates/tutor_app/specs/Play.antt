@@ -2,11 +2,8 @@
 use Rattle.std.specs.Prelude.{◌≡◌, ℕ, Bool, List, [], ◌∷◌, ◌++◌, Option, Some, None, Ok, Err, codes}
 use Rattle.std.specs.List.{flat_map}
 use Rattle.block_world.specs.declared.answer.TruthFault.{TruthFault}
-use Rattle.block_world.specs.declared.reading.WorldFault.{WorldFault}
-use Rattle.block_world.specs.declared.reading.WorldFault.TheVariants as world
 use Rattle.block_world.specs.Answers.{truth_of}
 use Rattle.hintikka_game.specs.declared.game.GameFault.{GameFault}
-use Rattle.hintikka_game.specs.declared.game.GameFault.TheVariants as game
 use Rattle.hintikka_game.specs.declared.replaying.PlayEnd.{PlayEnd}
 use Rattle.hintikka_game.specs.declared.replaying.PlayEnd.TheVariants.{Won, Lost, Waiting}
 use Rattle.hintikka_game.specs.declared.replaying.Played.{Played}
@@ -16,11 +13,11 @@ use Rattle.hintikka_game.specs.Games.{opened}
 use Rattle.hintikka_game.specs.Replays.{IsReplay, IsStopped}
 use Rattle.play_text.specs.declared.play.Play.{Play}
 use Rattle.play_text.specs.declared.play.PlayFault.{PlayFault}
-use Rattle.play_text.specs.declared.play.PlayFault.TheVariants as text
 use Rattle.play_text.specs.PlayText.{SpellsPlay}
 use Rattle.play_text.specs.PlayFaults.{IsFirstPlayFault}
-use Rattle.tutor_app.specs.Report.{with_number, unreadable_reply}
-use Rattle.tutor_app.specs.World.{answer_word}
+use Rattle.fault_words.specs.Numbered.{with_number}
+use Rattle.fault_words.specs.WorldFaults.{game_fault_text, play_fault_text, truth_fault_text}
+use Rattle.tutor_app.specs.Report.{unreadable_reply}
 use Rattle.tutor_app.specs.declared.tool.Reply.{Reply}
 
 -- the words that ask for it
@@ -57,40 +54,14 @@ played_text a = moves_text a.moves ++ (end_text a.end ++ 10 ∷ []) ++ losing_li
 abbrev pub played_reply : Played → Reply
 played_reply a = record { code = 0; text = played_text a }
 
--- Why a game or a choice is refused, by its name.
-abbrev pub game_fault_text : GameFault → List ℕ
-game_fault_text game.NotYourTurn = codes "NotYourTurn"
-game_fault_text (game.NoSuchChoice n) = with_number (codes "NoSuchChoice") n
-game_fault_text game.Over = codes "Over"
-game_fault_text game.NotMyTurn = codes "NotMyTurn"
-game_fault_text (game.Truth f) = answer_word (Err f)
-game_fault_text game.Memory = codes "Memory"
-
 -- the reply that names a refusal
 abbrev pub refused_reply : List ℕ → Reply
 refused_reply name = record { code = 3; text = codes "refused " ++ name ++ 10 ∷ [] }
 
--- The fault of a world text by its name.
-abbrev pub world_fault_text : WorldFault → List ℕ
-world_fault_text world.Header = codes "Header"
-world_fault_text world.Form = codes "Form"
-world_fault_text world.SquareTaken = codes "SquareTaken"
-world_fault_text world.NameTaken = codes "NameTaken"
-world_fault_text world.OffBoard = codes "OffBoard"
-world_fault_text world.Memory = codes "Memory"
-
--- The fault of a play text by its name. A refused sentence is told without its refusal.
-abbrev pub play_fault_text : PlayFault → List ℕ
-play_fault_text text.Header = codes "Header"
-play_fault_text text.Form = codes "Form"
-play_fault_text text.Sentence = codes "Sentence"
-play_fault_text (text.World f) = world_fault_text f
-play_fault_text text.Memory = codes "Memory"
-
 -- The reply to a play: its sentence has no value in its world, and the refusal is named; or else one of its choices is
 -- refused; or it was played.
 pub data IsPlayReply : Play → Reply → Type 0 where
-  no_value : (play : Play) (f : TruthFault) → truth_of play.world play.sentence ≡ Err f → IsPlayReply play (refused_reply (answer_word (Err f)))
+  no_value : (play : Play) (f : TruthFault) → truth_of play.world play.sentence ≡ Err f → IsPlayReply play (refused_reply (truth_fault_text f))
   no_choice : (play : Play) (v : Bool) (e : GameFault) → truth_of play.world play.sentence ≡ Ok v → IsStopped play.world (opened play.sentence play.commitment) play.choices e → IsPlayReply play (refused_reply (game_fault_text e))
   was_played : (play : Play) (v : Bool) (a : Played) → truth_of play.world play.sentence ≡ Ok v → IsReplay play.world (opened play.sentence play.commitment) play.choices a → IsPlayReply play (played_reply a)
 

@@ -8,7 +8,8 @@ use Rattle.sentence_lists.specs.SentenceLines.{SpellAtMost, ListFails}
 use Rattle.taut_con.specs.Letters.{letters}
 use Rattle.boole_table.specs.StandardTable.{standard_table}
 use Rattle.boole_table.specs.PrintedTable.{printed_table}
-use Rattle.tutor_app.specs.Report.{unreadable_reply, list_text}
+use Rattle.fault_words.specs.SentenceFaults.{list_fault_text}
+use Rattle.tutor_app.specs.Report.{unreadable_reply}
 use Rattle.tutor_app.specs.declared.tool.Reply.{Reply}
 
 -- the words that ask for it
@@ -39,5 +40,5 @@ pub data IsTableReply : List Sent → Reply → Type 0 where
 -- The reply to these bytes: they are no list of at most eight sentences, and the reply names the least faulty line with its
 -- fault; or they are such a list, and the reply is the one to it.
 pub data table_answers : List ℕ → Reply → Type 0 where
-  faulty_list : (bytes : List ℕ) (n : ℕ) (fault : ListFault) → ListFails most_sentences 1 (lines bytes) n fault → table_answers bytes (unreadable_reply n (list_text fault))
+  faulty_list : (bytes : List ℕ) (n : ℕ) (fault : ListFault) → ListFails most_sentences 1 (lines bytes) n fault → table_answers bytes (unreadable_reply n (list_fault_text fault))
   of_list : (bytes : List ℕ) (ss : List Sent) (reply : Reply) → SpellAtMost most_sentences (lines bytes) ss → IsTableReply ss reply → table_answers bytes reply

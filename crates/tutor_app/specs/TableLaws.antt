@@ -5,7 +5,8 @@ use Rattle.std.proofs.Common.{arith, ap₂, subst, inl, inr}
 use Rattle.fol_core.specs.declared.sent.Sent.{Sent}
 use Rattle.sentence_lists.proofs.Once.{list_once, fault_once, never_both}
 use Rattle.tutor_app.specs.Table.{IsTableReply, no_sentence, many_letters, tabulated, table_answers, faulty_list, of_list, most_sentences}
-use Rattle.tutor_app.specs.Report.{unreadable_reply, list_text}
+use Rattle.fault_words.specs.SentenceFaults.{list_fault_text}
+use Rattle.tutor_app.specs.Report.{unreadable_reply}
 use Rattle.tutor_app.specs.Reply.{IsReplyCode}
 use Rattle.tutor_app.specs.declared.tool.Reply.{Reply}
 
@@ -30,7 +31,7 @@ one_reply _ _ _ (tabulated s ss f) (tabulated _ _ g) = refl
 
 -- There is one reply at most to the same bytes.
 pub table_only : (bytes : List ℕ) (r q : Reply) → table_answers bytes r → table_answers bytes q → r ≡ q
-table_only _ _ _ (faulty_list bytes n f h) (faulty_list _ m g k) = let e = fault_once most_sentences 1 (lines bytes) n m f g h k in ap₂ (λ i x. unreadable_reply i (list_text x)) e.place e.is
+table_only _ _ _ (faulty_list bytes n f h) (faulty_list _ m g k) = let e = fault_once most_sentences 1 (lines bytes) n m f g h k in ap₂ (λ i x. unreadable_reply i (list_fault_text x)) e.place e.is
 table_only _ _ _ (faulty_list bytes n f h) (of_list _ ss q k l) = absurd (never_both most_sentences 1 (lines bytes) ss n f k h)
 table_only _ _ _ (of_list bytes ss r h k) (faulty_list _ m g l) = absurd (never_both most_sentences 1 (lines bytes) ss m g h l)
 table_only _ _ _ (of_list bytes ss r h k) (of_list _ ts q l m) = one_reply ts r q (subst (λ xs. IsTableReply xs r) (list_once (lines bytes) ss ts h.spell l.spell) k) m

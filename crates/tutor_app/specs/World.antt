@@ -6,12 +6,13 @@ use Rattle.fol_core.specs.declared.sent.Sent.{Sent}
 use Rattle.fol_text.specs.declared.fault.ReadFault.{ReadFault}
 use Rattle.block_world.specs.declared.block.Block.{Block}
 use Rattle.block_world.specs.declared.answer.TruthFault.{TruthFault}
-use Rattle.block_world.specs.declared.answer.TruthFault.TheVariants.{NotBlocks, NoSuchName, TooLarge}
+use Rattle.fault_words.specs.WorldFaults.{truth_fault_text}
 use Rattle.block_world.specs.Answers.{truth_of}
 use Rattle.block_world.specs.WorldText.{world_fault, world_of}
 use Rattle.sentence_lists.specs.declared.list.ListFault.TheVariants.{Sentence}
 use Rattle.sentence_lists.specs.SentenceLines.{SpellAtMost, ListFails}
-use Rattle.tutor_app.specs.Report.{unreadable_reply, list_text}
+use Rattle.fault_words.specs.SentenceFaults.{list_fault_text}
+use Rattle.tutor_app.specs.Report.{unreadable_reply}
 use Rattle.tutor_app.specs.Transfer.{input_limit}
 use Rattle.tutor_app.specs.declared.tool.Reply.{Reply}
 
@@ -27,9 +28,7 @@ IsWorldText text = world_fault text ≡ None
 abbrev pub answer_word : Result Bool TruthFault → List ℕ
 answer_word (Ok true) = codes "true"
 answer_word (Ok false) = codes "false"
-answer_word (Err NotBlocks) = codes "NotBlocks"
-answer_word (Err NoSuchName) = codes "NoSuchName"
-answer_word (Err TooLarge) = codes "TooLarge"
+answer_word (Err f) = truth_fault_text f
 
 -- A line for each sentence, in order, with the answer on it in the world.
 abbrev pub answer_lines : List Block → List Sent → List ℕ
@@ -44,7 +43,7 @@ answers_reply w ss = record { code = 0; text = answer_lines w ss }
 -- the limit has bytes.
 pub data world_answers : List Block → List ℕ → Reply → Type 0 where
   answered_each : (w : List Block) (bytes : List ℕ) (ss : List Sent) → SpellAtMost input_limit (lines bytes) ss → world_answers w bytes (answers_reply w ss)
-  refused_line : (w : List Block) (bytes : List ℕ) (n : ℕ) (why : ReadFault) → ListFails input_limit 1 (lines bytes) n (Sentence why) → world_answers w bytes (unreadable_reply n (list_text (Sentence why)))
+  refused_line : (w : List Block) (bytes : List ℕ) (n : ℕ) (why : ReadFault) → ListFails input_limit 1 (lines bytes) n (Sentence why) → world_answers w bytes (unreadable_reply n (list_fault_text (Sentence why)))
 
 -- The same where this text is that of the world.
 abbrev pub text_answers : List ℕ → List ℕ → Reply → Type 0

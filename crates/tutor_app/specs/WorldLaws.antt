@@ -6,7 +6,8 @@ use Rattle.block_world.specs.declared.block.Block.{Block}
 use Rattle.sentence_lists.specs.declared.list.ListFault.TheVariants.{Sentence}
 use Rattle.sentence_lists.proofs.Once.{list_once, fault_once, never_both}
 use Rattle.tutor_app.specs.World.{world_answers, answered_each, refused_line, answers_reply}
-use Rattle.tutor_app.specs.Report.{unreadable_reply, list_text}
+use Rattle.fault_words.specs.SentenceFaults.{list_fault_text}
+use Rattle.tutor_app.specs.Report.{unreadable_reply}
 use Rattle.tutor_app.specs.Transfer.{input_limit}
 use Rattle.tutor_app.specs.Reply.{IsReplyCode}
 use Rattle.tutor_app.specs.declared.tool.Reply.{Reply}
@@ -21,4 +22,4 @@ pub world_only : (w : List Block) (bytes : List ℕ) (r q : Reply) → world_ans
 world_only _ _ _ _ (answered_each w bytes ss h) (answered_each _ _ ts k) = ap (answers_reply w) (list_once (lines bytes) ss ts h.spell k.spell)
 world_only _ _ _ _ (answered_each w bytes ss h) (refused_line _ _ m g k) = absurd (never_both input_limit 1 (lines bytes) ss m (Sentence g) h k)
 world_only _ _ _ _ (refused_line w bytes n f h) (answered_each _ _ ts k) = absurd (never_both input_limit 1 (lines bytes) ts n (Sentence f) k h)
-world_only _ _ _ _ (refused_line w bytes n f h) (refused_line _ _ m g k) = let e = fault_once input_limit 1 (lines bytes) n m (Sentence f) (Sentence g) h k in ap₂ (λ i x. unreadable_reply i (list_text x)) e.place e.is
+world_only _ _ _ _ (refused_line w bytes n f h) (refused_line _ _ m g k) = let e = fault_once input_limit 1 (lines bytes) n m (Sentence f) (Sentence g) h k in ap₂ (λ i x. unreadable_reply i (list_fault_text x)) e.place e.is

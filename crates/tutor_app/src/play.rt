@@ -3,16 +3,17 @@ ghost use Rattle.fol_core.specs.Closed.{closed};
 ghost use Rattle.fol_core.specs.Size.{within_limits};
 ghost use Rattle.hintikka_game.specs.declared.game.GameFault.TheVariants as fault_of_game;
 ghost use Rattle.play_text.specs.declared.play.PlayFault.TheVariants as fault_of_text;
+ghost use Rattle.fault_words.specs.Numbered as numbered;
+ghost use Rattle.fault_words.specs.WorldFaults as faults;
 ghost use Rattle.tutor_app.specs.Play as spec;
 ghost use Rattle.tutor_app.specs.Play.{play_answers, IsPlayReply};
 ghost use Rattle.tutor_app.specs.PlayLaws.{play_known, play_only};
 ghost use Rattle.tutor_app.specs.Report as report;
 
-use crate::report::{unreadable, with_number};
+use crate::report::unreadable;
 use crate::tool::{Reply, Tool};
-use crate::world::answer_word;
-use block_world::WorldFault;
 use edge_io::Bytes;
+use fault_words::{game_fault_text, play_fault_text, with_number};
 use hintikka_game::{GameFault, Move, PlayEnd, Played, replay};
 use play_text::{Play, PlayFault, read_play};
 use std::alloc::{AllocError, Global};
@@ -37,7 +38,7 @@ impl Tool for PlayGame {
 
 /// The reply to an input whose physical line `line` has this fault as a play text.
 fn faulty(alloc: Global, line: u32, fault: PlayFault) -> Result<Reply, AllocError>
-    ensures reply { IfOk result (λ reply. (fault ≢ fault_of_text.Memory) × (reply ≡ report.unreadable_reply line (spec.play_fault_text fault))) }
+    ensures reply { IfOk result (λ reply. (fault ≢ fault_of_text.Memory) × (reply ≡ report.unreadable_reply line (faults.play_fault_text fault))) }
 {
     match fault {
         PlayFault::Memory => Err(AllocError),
@@ -74,7 +75,7 @@ fn told(alloc: Global, played: &Played) -> Result<Reply, AllocError>
 
 /// The reply that names a refusal.
 fn refused(alloc: Global, fault: GameFault) -> Result<Reply, AllocError>
-    ensures reply { IfOk result (λ reply. (fault ≢ fault_of_game.Memory) × (reply ≡ spec.refused_reply (spec.game_fault_text fault))) }
+    ensures reply { IfOk result (λ reply. (fault ≢ fault_of_game.Memory) × (reply ≡ spec.refused_reply (faults.game_fault_text fault))) }
 {
     match fault {
         GameFault::Memory => Err(AllocError),
@@ -83,7 +84,7 @@ fn refused(alloc: Global, fault: GameFault) -> Result<Reply, AllocError>
 }
 
 fn refusal(alloc: Global, fault: GameFault) -> Result<Reply, AllocError>
-    ensures reply { IfOk result (λ reply. reply ≡ spec.refused_reply (spec.game_fault_text fault)) }
+    ensures reply { IfOk result (λ reply. reply ≡ spec.refused_reply (faults.game_fault_text fault)) }
 {
     let mut line = Bytes::from_slice(alloc, b"refused ")?;
     line.append(game_fault_text(alloc, fault)?)?;
@@ -116,7 +117,7 @@ fn losing_line(alloc: Global, first_losing: Option<u32>) -> Result<Bytes, AllocE
 
 /// The word and the number behind it, as a line.
 fn numbered_line(alloc: Global, word: &[u8], number: u32) -> Result<Bytes, AllocError>
-    ensures text { IfOk result (λ text. text ≡ report.with_number word.now number ++ 10 ∷ []) }
+    ensures text { IfOk result (λ text. text ≡ numbered.with_number word.now number ++ 10 ∷ []) }
 {
     let mut line = with_number(alloc, word, number)?;
     line.add(b'\n')?;
@@ -158,43 +159,5 @@ fn end_text(alloc: Global, end: PlayEnd) -> Result<Bytes, AllocError>
         PlayEnd::Won => Bytes::from_slice(alloc, b"won"),
         PlayEnd::Lost => Bytes::from_slice(alloc, b"lost"),
         PlayEnd::Waiting(count) => with_number(alloc, b"waiting", count),
-    }
-}
-
-fn game_fault_text(alloc: Global, fault: GameFault) -> Result<Bytes, AllocError>
-    ensures text { IfOk result (λ text. text ≡ spec.game_fault_text fault) }
-{
-    match fault {
-        GameFault::NotYourTurn => Bytes::from_slice(alloc, b"NotYourTurn"),
-        GameFault::NoSuchChoice(count) => with_number(alloc, b"NoSuchChoice", count),
-        GameFault::Over => Bytes::from_slice(alloc, b"Over"),
-        GameFault::NotMyTurn => Bytes::from_slice(alloc, b"NotMyTurn"),
-        GameFault::Truth(fault) => Bytes::from_slice(alloc, answer_word(Err(fault))),
-        GameFault::Memory => Bytes::from_slice(alloc, b"Memory"),
-    }
-}
-
-fn play_fault_text(fault: PlayFault) -> &'static [u8]
-    ensures text { result.now ≡ spec.play_fault_text fault }
-{
-    match fault {
-        PlayFault::Header => b"Header",
-        PlayFault::Form => b"Form",
-        PlayFault::Sentence => b"Sentence",
-        PlayFault::World(fault) => world_fault_text(fault),
-        PlayFault::Memory => b"Memory",
-    }
-}
-
-fn world_fault_text(fault: WorldFault) -> &'static [u8]
-    ensures text { result.now ≡ spec.world_fault_text fault }
-{
-    match fault {
-        WorldFault::Header => b"Header",
-        WorldFault::Form => b"Form",
-        WorldFault::SquareTaken => b"SquareTaken",
-        WorldFault::NameTaken => b"NameTaken",
-        WorldFault::OffBoard => b"OffBoard",
-        WorldFault::Memory => b"Memory",
     }
 }

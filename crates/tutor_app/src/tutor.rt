@@ -1,14 +1,11 @@
-ghost use Rattle.std.specs.Prelude.{◌≡◌, ◌≢◌, ◌↔◌, ℕ, List, Some, IsTrue};
+ghost use Rattle.std.specs.Prelude.{◌≡◌, ℕ, List, Some};
 ghost use Rattle.edge_io.specs.Causes.{Rose};
-ghost use Rattle.edge_io.specs.Shelves.{TextsByName};
-ghost use Rattle.tutor_app.specs.Check.{check_answers, check_words, ReadsTree};
+ghost use Rattle.tutor_app.specs.Check.{check_words, ReadsTree};
 ghost use Rattle.tutor_app.specs.Reply.{IsReplyCode};
-ghost use Rattle.tutor_app.specs.Run.{ToolRuns, ToolRunsOn};
-ghost use Rattle.tutor_app.specs.ShelvedRun.{ShelvedRuns, ShelvedRunsOn, Says};
-ghost use Rattle.tutor_app.specs.Words.{AskForNothing, is_name};
-ghost use Rattle.tutor_app.specs.Table.{table_answers, table_words};
-ghost use Rattle.tutor_app.specs.Play.{play_answers, play_words};
-ghost use Rattle.tutor_app.specs.World.{world_words, text_answers, IsWorldText};
+ghost use Rattle.tutor_app.specs.Run.{ToolRuns};
+ghost use Rattle.tutor_app.specs.Running.{RunsAs, RunsOn};
+ghost use Rattle.tutor_app.specs.ShelvedRun.{Says};
+ghost use Rattle.tutor_app.specs.Words.{Request, AskFor, AskForNothing, NamesNoText, request_of, nothing};
 
 use crate::check::Check;
 use crate::play::PlayGame;
@@ -38,35 +35,18 @@ pub fn tutor<S: Source, W: Sink, F: Shelf>(
     output: &mut W,
     shelf: &mut F,
 ) -> Status
-    ensures check { words.now ≡ check_words →
-        ToolRuns check_answers (S.left input.old) (S.left input.new) (W.taken output.old) (W.taken output.new) result.code }
-    ensures told { words.now ≡ check_words → (bytes : List ℕ) → S.left input.old ≡ Some bytes →
-        ToolRunsOn check_answers bytes (S.left input.new) (W.taken output.old) (W.taken output.new) result.code }
-
-    ensures table { words.now ≡ table_words →
-        ToolRuns table_answers (S.left input.old) (S.left input.new) (W.taken output.old) (W.taken output.new) result.code }
-    ensures table_told { words.now ≡ table_words → (bytes : List ℕ) → S.left input.old ≡ Some bytes →
-        ToolRunsOn table_answers bytes (S.left input.new) (W.taken output.old) (W.taken output.new) result.code }
-
-    ensures play { words.now ≡ play_words →
-        ToolRuns play_answers (S.left input.old) (S.left input.new) (W.taken output.old) (W.taken output.new) result.code }
-    ensures play_told { words.now ≡ play_words → (bytes : List ℕ) → S.left input.old ≡ Some bytes →
-        ToolRunsOn play_answers bytes (S.left input.new) (W.taken output.old) (W.taken output.new) result.code }
-
-    ensures world { (name : List ℕ) → words.now ≡ world_words name → IsTrue (is_name name) →
-        ShelvedRuns IsWorldText text_answers (F.texts shelf.old) name (input.new ≡ input.old) (S.left input.old) (S.left input.new) (W.taken output.old) (W.taken output.new) result.code }
-    ensures world_told { (name : List ℕ) → words.now ≡ world_words name → IsTrue (is_name name) →
-        (texts : TextsByName) → F.texts shelf.old ≡ Some texts → (bytes : List ℕ) → S.left input.old ≡ Some bytes →
-        ShelvedRunsOn IsWorldText text_answers (texts name) name (input.new ≡ input.old) bytes (S.left input.new) (W.taken output.old) (W.taken output.new) result.code }
-
-    // Words that ask for no command: nothing is read or written.
-    ensures words { (result.code ≡ 2) ↔ AskForNothing words.now }
-    ensures untouched { AskForNothing words.now → (input.new ≡ input.old) × (output.new ≡ output.old) × (shelf.new ≡ shelf.old) }
-    // The other commands leave the shelf alone.
-    ensures shelf_idle { ((name : List ℕ) → words.now ≢ world_words name) → shelf.new ≡ shelf.old }
+    // By what the words ask for: what was read and written with each status.
+    ensures runs { (asked : Request) → AskFor words.now asked →
+        RunsAs asked (F.texts shelf.old) (input.new ≡ input.old) (S.left input.old) (S.left input.new) (W.taken output.old) (W.taken output.new) result.code }
+    ensures told { (asked : Request) → AskFor words.now asked → (bytes : List ℕ) → S.left input.old ≡ Some bytes →
+        RunsOn asked (F.texts shelf.old) (input.new ≡ input.old) bytes (S.left input.new) (W.taken output.old) (W.taken output.new) result.code }
 
     // Where `check` ends with status 0, the goal that was read has a natural-deduction tree from its premises.
     ensures proved { words.now ≡ check_words → result.code ≡ 0 → ReadsTree (S.left input.old) (S.left input.new) }
+
+    // What stays: all of it where the words ask for nothing, and the shelf where they name no text.
+    ensures untouched { AskForNothing words.now → (input.new ≡ input.old) × (output.new ≡ output.old) × (shelf.new ≡ shelf.old) }
+    ensures shelf_idle { (asked : Request) → AskFor words.now asked → NamesNoText asked → shelf.new ≡ shelf.old }
 
     ensures read_fault { result.code ≡ 4 → Rose (S.faults input.old) (S.faults input.new) }
     ensures write_fault { result.code ≡ 5 → Rose (W.faults output.old) (W.faults output.new) }
@@ -77,26 +57,37 @@ pub fn tutor<S: Source, W: Sink, F: Shelf>(
     ensures shelf_place { F.same_shelf shelf.old shelf.new }
     ensures shelf_texts { F.texts shelf.new ≡ F.texts shelf.old }
 {
-    let code = match command_of(words) {
-        Command::Check => run_check(alloc, input, output),
+    let command = command_of(words);
+    let code = run(alloc, command, input, output, shelf);
+    Status { code }
+}
+
+/// Runs the command. Answers the exit status.
+fn run<S: Source, W: Sink, F: Shelf>(
+    alloc: Global,
+    command: Command<'_>,
+    input: &mut S,
+    output: &mut W,
+    shelf: &mut F,
+) -> u8
+    ensures runs { RunsAs (request_of command) (F.texts shelf.old) (input.new ≡ input.old) (S.left input.old) (S.left input.new) (W.taken output.old) (W.taken output.new) result }
+    ensures untouched { request_of command ≡ nothing → (input.new ≡ input.old) × (output.new ≡ output.old) × (shelf.new ≡ shelf.old) }
+    ensures shelf_idle { NamesNoText (request_of command) → shelf.new ≡ shelf.old }
+    ensures read_fault { result ≡ 4 → Rose (S.faults input.old) (S.faults input.new) }
+    ensures write_fault { result ≡ 5 → Rose (W.faults output.old) (W.faults output.new) }
+    ensures shelf_fault { result ≡ 8 → Rose (F.faults shelf.old) (F.faults shelf.new) }
+    ensures input_place { S.same_source input.old input.new }
+    ensures output_place { W.same_sink output.old output.new }
+    ensures shelf_place { F.same_shelf shelf.old shelf.new }
+    ensures shelf_texts { F.texts shelf.new ≡ F.texts shelf.old }
+{
+    match command {
+        Command::Check => run_tool(alloc, &Check, input, output),
         Command::Table => run_tool(alloc, &Tabulate, input, output),
         Command::Play => run_tool(alloc, &PlayGame, input, output),
         Command::World(name) => run_world(alloc, name, input, output, shelf),
         Command::Refused => 2,
-    };
-    Status { code }
-}
-
-/// Runs the command `check`. Answers the exit status.
-fn run_check<S: Source, W: Sink>(alloc: Global, input: &mut S, output: &mut W) -> u8
-    ensures runs { ToolRuns check_answers (S.left input.old) (S.left input.new) (W.taken output.old) (W.taken output.new) result }
-    ensures proved { result ≡ 0 → ReadsTree (S.left input.old) (S.left input.new) }
-    ensures read_fault { result ≡ 4 → Rose (S.faults input.old) (S.faults input.new) }
-    ensures write_fault { result ≡ 5 → Rose (W.faults output.old) (W.faults output.new) }
-    ensures input_place { S.same_source input.old input.new }
-    ensures output_place { W.same_sink output.old output.new }
-{
-    run_tool(alloc, &Check, input, output)
+    }
 }
 
 /// Writes the reply. Answers the exit status.

@@ -1,6 +1,6 @@
 ghost use Rattle.std.specs.Prelude.{◌≡◌};
 ghost use Rattle.tutor_app.specs.Words as spec;
-ghost use Rattle.tutor_app.specs.Words.{AskFor};
+ghost use Rattle.tutor_app.specs.Words.{AskFor, request_of};
 
 use edge_io::Bytes;
 use lists::Listed;
@@ -27,7 +27,7 @@ pub enum Command<'a> {
 
 /// The command that the words ask for.
 pub fn command_of(words: &Words) -> Command<'_>
-    ensures asked { AskFor words.now result }
+    ensures asked { AskFor words.now (request_of result) }
 {
     match words.as_slice() {
         [word] if word.is(b"check") => Command::Check,

@@ -8,6 +8,7 @@ use crate::tool::{Reply, Tool};
 use crate::transfer::INPUT_LIMIT;
 use block_world::{TruthFault, World, truth};
 use edge_io::Bytes;
+use fault_words::truth_fault_text;
 use fol_core::Sent;
 use sentence_lists::read_sentences;
 use std::alloc::{AllocError, Global};
@@ -57,14 +58,12 @@ fn add_answer(text: &mut Bytes, answer: Result<bool, TruthFault>) -> Result<(), 
 }
 
 /// The word for the answer on a sentence.
-pub(crate) fn answer_word(answer: Result<bool, TruthFault>) -> &'static [u8]
+fn answer_word(answer: Result<bool, TruthFault>) -> &'static [u8]
     ensures word { result.now ≡ spec.answer_word answer }
 {
     match answer {
         Ok(true) => b"true",
         Ok(false) => b"false",
-        Err(TruthFault::NotBlocks) => b"NotBlocks",
-        Err(TruthFault::NoSuchName) => b"NoSuchName",
-        Err(TruthFault::TooLarge) => b"TooLarge",
+        Err(fault) => truth_fault_text(fault),
     }
 }

@@ -1,6 +1,6 @@
 use Rattle.std.proofs.Common.{ℕ, ◌+◌, ◌*◌, arith}
 use Rattle.std.specs.List.{range_with_len}
-use Rattle.block_world.specs.BitSets.{has}
+use Rattle.bit_sets.specs.BitSets.{has}
 use Rattle.block_world.specs.Tables.{joined}
 use Rattle.block_world.proofs.Marking.{none_marked, marked_more, marked_extends}
 use Rattle.block_world.proofs.columns.gathered.Goals as goal

@@ -1,5 +1,5 @@
 use Rattle.std.proofs.Common.{ℕ, ◌+◌, ap₂, sym, ◌∙◌}
-use Rattle.block_world.specs.BitSets.{has}
+use Rattle.bit_sets.specs.BitSets.{has}
 use Rattle.block_world.specs.Tables.{join_two}
 use Rattle.block_world.proofs.Joining.{joined_none, joined_counted}
 use Rattle.block_world.proofs.columns.joined_from.Goals as goal

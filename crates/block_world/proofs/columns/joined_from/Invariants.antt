@@ -1,6 +1,6 @@
 use Rattle.std.specs.Prelude.{◌≡◌, ◌+◌}
 use Rattle.std.specs.List.{range_with_len}
-use Rattle.block_world.specs.BitSets.{has}
+use Rattle.bit_sets.specs.BitSets.{has}
 use Rattle.block_world.specs.Tables.{joined}
 use Rattle.block_world.proofs.columns.joined_from.Given as goal
 

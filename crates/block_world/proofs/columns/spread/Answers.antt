@@ -1,6 +1,6 @@
 use Rattle.std.proofs.Common.{ℕ, ap, sym, arith, ◌∙◌, div-one, mod-eq_of_lt, inl, inr}
 use Rattle.std.specs.Prelude.{◌%◌}
-use Rattle.block_world.specs.BitSets.{has}
+use Rattle.bit_sets.specs.BitSets.{has}
 use Rattle.block_world.specs.Digits.{digit_of}
 use Rattle.block_world.proofs.Spreading.{no_digit, no_place}
 use Rattle.block_world.proofs.columns.spread.Goals as goal

@@ -1,6 +1,6 @@
 use Rattle.std.proofs.Common.{ℕ, ◌+◌, length, ap, ◌∙◌}
 use Rattle.std.specs.Prelude.{◌||◌}
-use Rattle.block_world.specs.BitSets.{has}
+use Rattle.bit_sets.specs.BitSets.{has}
 use Rattle.block_world.specs.Digits.{digit_of}
 use Rattle.block_world.specs.Relations.{relates}
 use Rattle.block_world.proofs.Pairing.{spread_extends}

@@ -1,5 +1,5 @@
 use Rattle.std.specs.Prelude.{◌+◌, ◌&&◌, nat_lt, length}
-use Rattle.block_world.specs.BitSets.{IsExtension}
+use Rattle.block_world.specs.inside.Extensions.{IsExtension}
 use Rattle.block_world.specs.Digits.{digit_of}
 use Rattle.block_world.specs.Relations.{relates}
 use Rattle.block_world.proofs.columns.spread_pairs.Given as goal

@@ -1,7 +1,7 @@
 use Rattle.std.proofs.Common.{◌≡◌, ℕ, ◌+◌, ◌-◌, ◌<◌, length, ap, sym, ◌∙◌, subst, arith}
 use Rattle.std.specs.Prelude.{◌/◌}
 use Rattle.std.proofs.lemmas.Nat.{mod_below}
-use Rattle.block_world.specs.BitSets.{IsExtension}
+use Rattle.block_world.specs.inside.Extensions.{IsExtension}
 use Rattle.block_world.specs.Digits.{digit_of}
 use Rattle.block_world.specs.Relations.{relates}
 use Rattle.block_world.specs.Tables.{bits_in}

@@ -2,7 +2,7 @@ use Rattle.std.proofs.Common.{◌<◌, length}
 use Rattle.std.specs.Prelude.{◌+◌}
 use Rattle.block_world.specs.declared.atomic.Atomic.TheVariants.{Two}
 use Rattle.block_world.specs.declared.digits.Referent.TheVariants as ref
-use Rattle.block_world.specs.BitSets.{IsExtension}
+use Rattle.block_world.specs.inside.Extensions.{IsExtension}
 use Rattle.block_world.specs.Digits.{digit_of}
 use Rattle.block_world.specs.Referents.{value_by}
 use Rattle.block_world.specs.Relations.{relates}

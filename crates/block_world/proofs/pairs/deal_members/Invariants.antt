@@ -1,5 +1,5 @@
 use Rattle.std.proofs.Common.{◌≡◌, ◌<◌, ℕ, length}
-use Rattle.block_world.specs.BitSets.{has}
+use Rattle.bit_sets.specs.BitSets.{has}
 use Rattle.block_world.specs.Digits.{digit_of}
 use Rattle.block_world.proofs.Filling.{AreFilled}
 use Rattle.block_world.proofs.pairs.deal_members.Given as goal

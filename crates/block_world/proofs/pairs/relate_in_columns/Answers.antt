@@ -1,5 +1,5 @@
 use Rattle.std.proofs.Common.{◌≡◌, ◌<◌, ℕ, ap, ◌∙◌, ◌+◌, length, arith, subst, sym}
-use Rattle.block_world.specs.BitSets.{IsExtension}
+use Rattle.block_world.specs.inside.Extensions.{IsExtension}
 use Rattle.block_world.specs.Digits.{digit_of}
 use Rattle.block_world.specs.Relations.{relates}
 use Rattle.block_world.proofs.Grouping.{none_grouped, more_grouped}

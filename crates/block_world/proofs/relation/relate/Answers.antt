@@ -1,7 +1,7 @@
 use Rattle.std.proofs.Common.{ℕ, ◌+◌, [], ◌∷◌, length, refl, sym, subst}
 use Rattle.std.specs.Prelude.{Some}
 use Rattle.block_world.specs.declared.predicate.Predicate.TheVariants.{Between}
-use Rattle.block_world.specs.BitSets.{IsExtension}
+use Rattle.block_world.specs.inside.Extensions.{IsExtension}
 use Rattle.block_world.specs.Predicates.{says}
 use Rattle.block_world.specs.Relations.{relates}
 use Rattle.block_world.specs.Tables.{bits_in}

@@ -1,5 +1,5 @@
 use Rattle.std.specs.Prelude.{◌≡◌, ◌+◌, length}
-use Rattle.block_world.specs.BitSets.{IsExtension}
+use Rattle.block_world.specs.inside.Extensions.{IsExtension}
 use Rattle.block_world.specs.Relations.{relates}
 use Rattle.block_world.specs.Tables.{bits_in}
 use Rattle.block_world.proofs.Grouping.{AreGrouped}

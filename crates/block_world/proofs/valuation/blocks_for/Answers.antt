@@ -1,7 +1,7 @@
 use Rattle.std.proofs.Common.{ℕ, ◌+◌, length, ap, ap₂, arith, ◌∙◌, mod-eq_of_lt}
 use Rattle.std.specs.Prelude.{◌/◌}
 use Rattle.block_world.specs.Assignments.{own_names, put}
-use Rattle.block_world.specs.BitSets.{has}
+use Rattle.bit_sets.specs.BitSets.{has}
 use Rattle.block_world.specs.Places.{given}
 use Rattle.block_world.specs.Truth.{val}
 use Rattle.block_world.proofs.Standings.{standing_by_column, standing_given}

@@ -1,7 +1,7 @@
 use Rattle.std.proofs.Common.{◌≡◌, ℕ, ◌+◌, [], ◌∷◌, rules, subst, sym, refl}
 use Rattle.block_world.specs.declared.atomic.Atomic.TheVariants.{One}
 use Rattle.block_world.specs.declared.digits.Referent.TheVariants.{ByColumn}
-use Rattle.block_world.specs.BitSets.{IsExtension}
+use Rattle.block_world.specs.inside.Extensions.{IsExtension}
 use Rattle.block_world.specs.Predicates.{says, says_of_one}
 use Rattle.block_world.specs.Referents.{value_by}
 use Rattle.block_world.specs.Worlds.{block_at}

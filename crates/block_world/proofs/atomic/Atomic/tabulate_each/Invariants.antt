@@ -1,4 +1,4 @@
-use Rattle.block_world.specs.BitSets.{IsExtension}
+use Rattle.block_world.specs.inside.Extensions.{IsExtension}
 use Rattle.block_world.specs.Referents.{value_by}
 use Rattle.block_world.proofs.Filling.{AreFilled}
 use Rattle.block_world.proofs.atomic.Atomic.tabulate_each.Given as goal

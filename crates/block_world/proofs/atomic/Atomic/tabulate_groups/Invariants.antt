@@ -1,5 +1,5 @@
 use Rattle.std.specs.Prelude.{◌<◌, ◌*◌, ℕ, length}
-use Rattle.block_world.specs.BitSets.{IsExtension}
+use Rattle.block_world.specs.inside.Extensions.{IsExtension}
 use Rattle.block_world.specs.Referents.{value_by}
 use Rattle.block_world.specs.Tables.{bits_in}
 use Rattle.block_world.proofs.atomic.Atomic.tabulate_groups.Given as goal

@@ -1,6 +1,6 @@
 use Rattle.std.proofs.Common.{ap, ap₂, sym, ◌∙◌}
 use Rattle.std.specs.Prelude.{◌&&◌}
-use Rattle.block_world.specs.BitSets.{has}
+use Rattle.bit_sets.specs.BitSets.{has}
 use Rattle.block_world.specs.Geometry.{is_inside}
 use Rattle.block_world.proofs.Lining.{between_set, none_of_line}
 use Rattle.block_world.proofs.betweenness.Lines.between.Goals as goal

@@ -1,5 +1,5 @@
 use Rattle.std.proofs.Common.{ℕ, ap₂, ◌∙◌, arith}
-use Rattle.block_world.specs.BitSets.{has}
+use Rattle.bit_sets.specs.BitSets.{has}
 use Rattle.block_world.specs.Tables.{connect}
 use Rattle.block_world.proofs.Filling.{none_filled, more_filled}
 use Rattle.block_world.proofs.table.Table.join.Goals as goal

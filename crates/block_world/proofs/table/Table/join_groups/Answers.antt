@@ -1,5 +1,5 @@
 use Rattle.std.proofs.Common.{ℕ, ◌+◌, ◌*◌, ap, ◌∙◌, arith}
-use Rattle.block_world.specs.BitSets.{has}
+use Rattle.bit_sets.specs.BitSets.{has}
 use Rattle.block_world.specs.Tables.{bits_in}
 use Rattle.block_world.proofs.Filling.{none_filled, more_filled, not_before}
 use Rattle.block_world.proofs.Joining.{joined_shifted}

@@ -1,5 +1,5 @@
 use Rattle.std.proofs.Common.{ℕ, ◌+◌, sym, ap, ap₂, ◌∙◌}
-use Rattle.block_world.specs.BitSets.{has}
+use Rattle.bit_sets.specs.BitSets.{has}
 use Rattle.block_world.specs.Tables.{bits_in, join_two}
 use Rattle.block_world.proofs.Joining.{joined_none, joined_counted}
 use Rattle.block_world.proofs.table.Table.joined.Goals as goal

@@ -1,0 +1,4 @@
+pub mod Numbered
+pub mod SentenceFaults
+pub mod ProofFaults
+pub mod WorldFaults
