@@ -1,9 +1,9 @@
 -- What is printed of the faults of worlds, plays and games.
 use Rattle.std.specs.Prelude.{ℕ, List, codes}
-use Rattle.block_world.specs.declared.answer.TruthFault.{TruthFault}
-use Rattle.block_world.specs.declared.answer.TruthFault.TheVariants as truth
-use Rattle.block_world.specs.declared.reading.WorldFault.{WorldFault}
-use Rattle.block_world.specs.declared.reading.WorldFault.TheVariants as world
+use Rattle.world_truth.specs.declared.answer.TruthFault.{TruthFault}
+use Rattle.world_truth.specs.declared.answer.TruthFault.TheVariants as truth
+use Rattle.world_text.specs.declared.reading.WorldFault.{WorldFault}
+use Rattle.world_text.specs.declared.reading.WorldFault.TheVariants as world
 use Rattle.hintikka_game.specs.declared.game.GameFault.{GameFault}
 use Rattle.hintikka_game.specs.declared.game.GameFault.TheVariants as game
 use Rattle.play_text.specs.declared.play.PlayFault.{PlayFault}

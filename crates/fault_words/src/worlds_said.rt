@@ -2,11 +2,12 @@ ghost use Rattle.std.specs.Prelude.{◌≡◌, IfOk};
 ghost use Rattle.fault_words.specs.WorldFaults as spec;
 
 use crate::numbered::with_number;
-use block_world::{TruthFault, WorldFault};
 use hintikka_game::GameFault;
 use lists::Listed;
 use play_text::PlayFault;
 use std::alloc::{AllocError, Global};
+use world_text::WorldFault;
+use world_truth::TruthFault;
 
 /// Why a sentence has no value in a world.
 pub fn truth_fault_text(fault: TruthFault) -> &'static [u8]

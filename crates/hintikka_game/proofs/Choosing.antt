@@ -8,8 +8,8 @@ use Rattle.fol_core.specs.Size.{greatest}
 use Rattle.fol_core.specs.declared.sent.Sent.{Sent, out-Sent, the_lemmas}
 use Rattle.fol_core.specs.declared.sent.Sent.TheVariants as s
 use Rattle.fol_core.specs.declared.sent.Sent.TheOpen as f
-use Rattle.block_world.specs.declared.block.Block.{Block}
-use Rattle.block_world.specs.Worlds.{numbers}
+use Rattle.worlds.specs.declared.block.Block.{Block}
+use Rattle.worlds.specs.Worlds.{numbers}
 use Rattle.hintikka_game.specs.declared.position.Position.{Position}
 use Rattle.hintikka_game.specs.declared.turn.Turn.TheVariants as turns
 use Rattle.hintikka_game.specs.Positions.{Player, Computer, verifier, falsifier, nexts, nexts_at, at_sentence, at_block, is_kept}

@@ -1,7 +1,7 @@
 -- What holds of every play.
 use Rattle.std.proofs.Common.{◌≡◌, ℕ, zero, suc, ◌+◌, ◌-◌, ◌<◌, ◌≤◌, List, [], ◌∷◌, ◌++◌, length, get_or, refl, ap, sym, ◌∙◌, subst, Bool, true, false, true≢false, arith}
 use Rattle.std.specs.Prelude.{◌&&◌, not, None, Some, IsSome, if◌then◌else◌}
-use Rattle.block_world.specs.declared.block.Block.{Block}
+use Rattle.worlds.specs.declared.block.Block.{Block}
 use Rattle.hintikka_game.specs.declared.position.Position.{Position}
 use Rattle.hintikka_game.specs.declared.turn.Turn.TheVariants as turns
 use Rattle.hintikka_game.specs.declared.turn.Move.{Move}

@@ -2,7 +2,7 @@
 use Rattle.std.proofs.Common.{◌≡◌, ℕ, ◌+◌, ◌<◌, ◌≤◌, List, [], ◌∷◌, ◌++◌, length, get_or, take, drop, take-append-drop, refl, ap, ap₂, sym, ◌∙◌, subst, Bool, true, false, true≢false, arith, rules, inl, inr}
 use Rattle.std.proofs.lemmas.List.{get_or_default, take_more, drop_more}
 use Rattle.std.specs.Prelude.{◌↔◌, ◌⊎◌, ◌||◌, ◌==◌, nat_lt, Option, None, Some, IsSome, if◌then◌else◌}
-use Rattle.block_world.specs.declared.block.Block.{Block}
+use Rattle.worlds.specs.declared.block.Block.{Block}
 use Rattle.hintikka_game.specs.declared.game.GameFault.{GameFault}
 use Rattle.hintikka_game.specs.declared.game.GameFault.TheVariants as faults
 use Rattle.hintikka_game.specs.declared.position.Position.{Position}

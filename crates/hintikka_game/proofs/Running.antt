@@ -3,7 +3,7 @@ use Rattle.std.proofs.Common.{◌≡◌, ℕ, ◌+◌, ◌≤◌, List, [], ◌�
 use Rattle.std.specs.Prelude.{◌↔◌, ◌&&◌, not, Option, None, IsSome, is_some, Ok}
 use Rattle.fol_core.specs.declared.sent.Sent.{Sent}
 use Rattle.fol_core.specs.Size.{within_limits}
-use Rattle.block_world.specs.declared.block.Block.{Block}
+use Rattle.worlds.specs.declared.block.Block.{Block}
 use Rattle.hintikka_game.specs.declared.position.Position.{Position}
 use Rattle.hintikka_game.specs.declared.turn.Turn.{Turn}
 use Rattle.hintikka_game.specs.declared.turn.Turn.TheVariants as turns

@@ -6,7 +6,7 @@ use Rattle.fol_core.specs.Subst.{itself}
 use Rattle.fol_core.specs.declared.sent.Sent.{Sent, out-Sent}
 use Rattle.fol_core.specs.declared.sent.Sent.TheOpen.{Sent-F}
 use Rattle.fol_core.specs.declared.sent.Sent.TheOpen as f
-use Rattle.block_world.specs.declared.block.Block.{Block}
+use Rattle.worlds.specs.declared.block.Block.{Block}
 use Rattle.hintikka_game.specs.declared.position.Position.{Position}
 use Rattle.hintikka_game.specs.declared.turn.Turn.TheVariants as turns
 use Rattle.hintikka_game.specs.declared.turn.Move.{Move}

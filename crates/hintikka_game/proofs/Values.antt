@@ -7,12 +7,12 @@ use Rattle.fol_core.specs.declared.sent.Sent.TheOpen.{Sent-F}
 use Rattle.fol_core.specs.declared.sent.Sent.TheOpen as f
 use Rattle.fol_core.specs.declared.sent.Sent.TheVariants as s
 use Rattle.fol_core.specs.declared.sent.Sent.TheFolds.{fold-roll-Sent, map-Sent}
-use Rattle.block_world.specs.declared.block.Block.{Block}
-use Rattle.block_world.specs.declared.answer.Place.{Place}
-use Rattle.block_world.specs.Assignments.{Assignment, put, own_names}
-use Rattle.block_world.specs.Places.{given}
-use Rattle.block_world.specs.Truth.{val, val_under, val_step, are_alike}
-use Rattle.block_world.specs.Worlds.{numbers}
+use Rattle.worlds.specs.declared.block.Block.{Block}
+use Rattle.world_truth.specs.declared.answer.Place.{Place}
+use Rattle.worlds.specs.Assignments.{Assignment, put, own_names}
+use Rattle.world_truth.specs.Places.{given}
+use Rattle.worlds.specs.Truth.{val, val_under, val_step, are_alike}
+use Rattle.worlds.specs.Worlds.{numbers}
 use Rattle.hintikka_game.specs.declared.position.Position.{Position}
 use Rattle.hintikka_game.specs.Positions.{side, side_at, nexts, nexts_at, at_block, is_kept}
 use Rattle.hintikka_game.specs.Wins.{wins_by}

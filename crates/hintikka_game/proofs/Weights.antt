@@ -6,8 +6,8 @@ use Rattle.fol_core.specs.declared.sent.Sent.TheOpen.{Sent-F}
 use Rattle.fol_core.specs.declared.sent.Sent.TheOpen as f
 use Rattle.fol_core.specs.declared.sent.Sent.TheVariants as s
 use Rattle.fol_core.specs.declared.sent.Sent.TheFolds.{fold-roll-Sent, map-Sent}
-use Rattle.block_world.specs.declared.block.Block.{Block}
-use Rattle.block_world.specs.Worlds.{numbers}
+use Rattle.worlds.specs.declared.block.Block.{Block}
+use Rattle.worlds.specs.Worlds.{numbers}
 use Rattle.hintikka_game.specs.declared.position.Position.{Position}
 use Rattle.hintikka_game.specs.Positions.{nexts, nexts_at, at_sentence, at_block}
 use Rattle.hintikka_game.specs.Weight.{weight, weight_step}

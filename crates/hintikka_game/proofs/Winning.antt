@@ -1,6 +1,6 @@
 -- A position wins exactly where the commitment is the value.
 use Rattle.std.proofs.Common.{◌≡◌, ℕ, zero, suc, ◌≤◌, List, [], ◌∷◌, map, refl, ap, ap₂, sym, ◌∙◌, arith}
-use Rattle.block_world.specs.declared.block.Block.{Block}
+use Rattle.worlds.specs.declared.block.Block.{Block}
 use Rattle.hintikka_game.specs.declared.position.Position.{Position}
 use Rattle.hintikka_game.specs.Positions.{side, nexts, is_kept}
 use Rattle.hintikka_game.specs.Wins.{wins_by, wins_in, wins, wins_by_turns}

@@ -1,7 +1,7 @@
 -- What callers see of a game, and what it keeps.
 use Rattle.std.specs.Prelude.{◌≡◌, ℕ, ◌≤◌, Bool, true, List, [], ◌++◌, Option}
 use Rattle.fol_core.specs.declared.sent.Sent.{Sent}
-use Rattle.block_world.specs.declared.block.Block.{Block}
+use Rattle.worlds.specs.declared.block.Block.{Block}
 use Rattle.hintikka_game.specs.declared.position.Position.{Position}
 use Rattle.hintikka_game.specs.declared.turn.Turn.{Turn}
 use Rattle.hintikka_game.specs.declared.turn.Move.{Move}

@@ -1,6 +1,6 @@
 -- What holds of every play, and of every position.
 use Rattle.std.specs.Prelude.{◌≡◌, ◌↔◌, ◌≤◌, true, false, List, length, IsSome}
-use Rattle.block_world.specs.declared.block.Block.{Block}
+use Rattle.worlds.specs.declared.block.Block.{Block}
 use Rattle.hintikka_game.specs.declared.position.Position.{Position}
 use Rattle.hintikka_game.specs.declared.turn.Move.{Move}
 use Rattle.hintikka_game.specs.declared.turn.Turn.TheVariants.{Over}

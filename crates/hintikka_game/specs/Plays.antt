@@ -1,6 +1,6 @@
 -- Plays: lists of moves from an opening position.
 use Rattle.std.specs.Prelude.{◌≡◌, ℕ, ◌+◌, ◌-◌, ◌≤◌, Bool, true, false, not, ◌&&◌, List, [], ◌∷◌, get_or, Option, None, Some, if◌then◌else◌, ⊤}
-use Rattle.block_world.specs.declared.block.Block.{Block}
+use Rattle.worlds.specs.declared.block.Block.{Block}
 use Rattle.hintikka_game.specs.declared.position.Position.{Position}
 use Rattle.hintikka_game.specs.declared.turn.Turn.{Turn}
 use Rattle.hintikka_game.specs.declared.turn.Turn.TheVariants as turns

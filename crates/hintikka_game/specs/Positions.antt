@@ -5,11 +5,11 @@ use Rattle.fol_core.specs.declared.sent.Sent.{Sent, out-Sent}
 use Rattle.fol_core.specs.declared.sent.Sent.TheVariants as s
 use Rattle.fol_core.specs.declared.sent.Sent.TheOpen.{Sent-F}
 use Rattle.fol_core.specs.declared.sent.Sent.TheOpen as f
-use Rattle.block_world.specs.declared.block.Block.{Block}
-use Rattle.block_world.specs.Assignments.{Assignment, own_names}
-use Rattle.block_world.specs.Places.{given}
-use Rattle.block_world.specs.Truth.{val, are_alike}
-use Rattle.block_world.specs.Worlds.{numbers}
+use Rattle.worlds.specs.declared.block.Block.{Block}
+use Rattle.worlds.specs.Assignments.{Assignment, own_names}
+use Rattle.world_truth.specs.Places.{given}
+use Rattle.worlds.specs.Truth.{val, are_alike}
+use Rattle.worlds.specs.Worlds.{numbers}
 use Rattle.hintikka_game.specs.declared.position.Position.{Position}
 
 -- Whose move it is: the player's, the machine's, or nobody's, where a negation, a conditional or a value decides.

@@ -1,8 +1,8 @@
 -- When a game refuses a call.
 use Rattle.std.specs.Prelude.{◌≡◌, ℕ, ◌||◌, ◌==◌, nat_lt, List, Option, None, Some, Err, if◌then◌else◌, ⊤}
 use Rattle.fol_core.specs.declared.sent.Sent.{Sent}
-use Rattle.block_world.specs.declared.block.Block.{Block}
-use Rattle.block_world.specs.Answers.{truth_of}
+use Rattle.worlds.specs.declared.block.Block.{Block}
+use Rattle.world_truth.specs.Answers.{truth_of}
 use Rattle.hintikka_game.specs.declared.game.GameFault.{GameFault}
 use Rattle.hintikka_game.specs.declared.game.GameFault.TheVariants as faults
 use Rattle.hintikka_game.specs.declared.turn.Turn.{Turn}

@@ -1,6 +1,6 @@
 -- What holds of replays: given the choices, there is one at most, or one refusal at most, and never both.
 use Rattle.std.specs.Prelude.{◌≡◌, ℕ, List}
-use Rattle.block_world.specs.declared.block.Block.{Block}
+use Rattle.worlds.specs.declared.block.Block.{Block}
 use Rattle.hintikka_game.specs.declared.game.GameFault.{GameFault}
 use Rattle.hintikka_game.specs.declared.position.Position.{Position}
 use Rattle.hintikka_game.specs.declared.replaying.Played.{Played}

@@ -1,7 +1,7 @@
 -- Games in which the player's choices are given beforehand.
 use Rattle.std.specs.Prelude.{◌≡◌, ℕ, ◌<◌, ◌⊎◌, true, false, List, ◌∷◌, ◌++◌, Err, ⊤}
-use Rattle.block_world.specs.declared.block.Block.{Block}
-use Rattle.block_world.specs.Answers.{truth_of}
+use Rattle.worlds.specs.declared.block.Block.{Block}
+use Rattle.world_truth.specs.Answers.{truth_of}
 use Rattle.hintikka_game.specs.declared.game.GameFault.{GameFault}
 use Rattle.hintikka_game.specs.declared.game.GameFault.TheVariants as faults
 use Rattle.hintikka_game.specs.declared.position.Position.{Position}

@@ -2,7 +2,7 @@
 use Rattle.std.specs.Prelude.{ℕ, zero, suc, Bool, List, [], map}
 use Rattle.std.specs.List.{list_all, list_any}
 use Rattle.fol_core.specs.Subst.{itself}
-use Rattle.block_world.specs.declared.block.Block.{Block}
+use Rattle.worlds.specs.declared.block.Block.{Block}
 use Rattle.hintikka_game.specs.declared.position.Position.{Position}
 use Rattle.hintikka_game.specs.Positions.{Side, Player, Computer, Negation, Conditional, Value, side, nexts, is_kept}
 use Rattle.hintikka_game.specs.Weight.{weight}

@@ -1,7 +1,7 @@
 ghost use Rattle.std.specs.Prelude.{◌≡◌, ◌↔◌, ◌⊎◌, ◌∷◌, ◌≤◌, ◌&&◌, not, [], true, false, length, Some, Ok, Err, IfOk, IfErr, IsSome, IsTrue, OnErr, OnOk};
 ghost use Rattle.fol_core.specs.Closed.{closed};
 ghost use Rattle.fol_core.specs.Size.{within_limits};
-ghost use Rattle.block_world.specs.Answers.{truth_of};
+ghost use Rattle.world_truth.specs.Answers.{truth_of};
 ghost use Rattle.hintikka_game.specs.Games.{opened, turn_in, with_moves};
 ghost use Rattle.hintikka_game.specs.Plays as plays;
 ghost use Rattle.hintikka_game.specs.Plays.{IsAllowed, IsPlay, first_losing_of, forced};
@@ -14,11 +14,12 @@ ghost use Rattle.hintikka_game.specs.Wins.{wins, wins_by_turns};
 use crate::position::Position;
 use crate::rules;
 use crate::turn::{Move, Moves, Turn};
-use block_world::{Places, TruthFault, World, truth};
 use fol_core::{Sent, copy};
 use std::alloc::{AllocError, Global};
 use std::marker::Model;
 use thiserror::Error;
+use world_truth::{Places, TruthFault, truth};
+use worlds::World;
 
 /// Why a game refuses.
 #[derive(Clone, Copy, Debug, PartialEq, Eq, Error)]

@@ -2,11 +2,12 @@ ghost use Rattle.std.specs.Prelude.{◌≡◌, ◌∷◌, ◌++◌, [], IfOk, no
 ghost use Rattle.fol_core.specs.declared.sent.Sent.TheVariants as sents;
 ghost use Rattle.hintikka_game.specs.Positions as positions;
 
-use block_world::{Place, Places, World, truth_at};
 use fol_core::{Ident, Sent, copy};
 use lists::{Listed, Several};
 use sqlite_items::Boxed;
 use std::alloc::{AllocError, Global};
+use world_truth::{Place, Places, truth_at};
+use worlds::World;
 
 /// A position of the game.
 #[derive(Debug, Drop)]

@@ -1,8 +1,8 @@
 ghost use Rattle.std.specs.Prelude.{◌≡◌, ◌↔◌, ◌⊎◌, ◌∷◌, ◌≤◌, [], true, false, length, Some, Ok, Err, IfOk, IfErr, IsSome, IsTrue, OnOk};
 ghost use Rattle.fol_core.specs.Closed.{closed};
 ghost use Rattle.fol_core.specs.Size.{within_limits};
-ghost use Rattle.block_world.specs.Answers.{truth_of};
-ghost use Rattle.block_world.specs.declared.answer.TruthFault.{TruthFault};
+ghost use Rattle.world_truth.specs.Answers.{truth_of};
+ghost use Rattle.world_truth.specs.declared.answer.TruthFault.{TruthFault};
 ghost use Rattle.hintikka_game.specs.declared.turn.Move.TheVariants as moves;
 ghost use Rattle.hintikka_game.specs.Games.{IsSettled, WentOn, opened, turn_in, with_moves};
 ghost use Rattle.hintikka_game.specs.Positions.{is_kept as is_value};
@@ -13,9 +13,9 @@ ghost use Rattle.hintikka_game.specs.Weight.{weight};
 
 use crate::game::{Game, GameFault};
 use crate::turn::{Moves, Turn};
-use block_world::World;
 use fol_core::Sent;
 use std::alloc::Global;
+use worlds::World;
 
 /// How a replay ends.
 #[derive(Clone, Copy, Debug, PartialEq, Eq)]

@@ -5,9 +5,9 @@ ghost use Rattle.hintikka_game.specs.Width.{widest};
 
 use crate::position::Position;
 use crate::turn::Turn;
-use block_world::{World, block_count};
 use fol_core::Sent;
 use std::alloc::{AllocError, Global};
+use worlds::{World, block_count};
 
 /// What comes next in the position.
 #[tactic(auto, using(crate::proofs::Choosing::other_side))]

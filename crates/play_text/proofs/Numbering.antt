@@ -2,8 +2,8 @@
 use Rattle.std.proofs.Common.{◌≡◌, ℕ, ◌≤◌, List, [], ◌∷◌, ◌++◌, length, map, length-append, append_assoc, append-nil, arith, refl, ap, sym, ◌∙◌, Option, Some, None, inl, inr}
 use Rattle.std.specs.Prelude.{◌⊎◌}
 use Rattle.std.proofs.lemmas.List.{map-append, length-map}
-use Rattle.block_world.specs.Lines.{words}
-use Rattle.block_world.specs.BlockLines.{number_of}
+use Rattle.world_text.specs.Lines.{words}
+use Rattle.world_text.specs.BlockLines.{number_of}
 use Rattle.play_text.specs.declared.play.PlayFault.{PlayFault}
 use Rattle.play_text.specs.declared.play.PlayFault.TheVariants.{Form, Memory}
 use Rattle.play_text.specs.PlayLines.{IsChoices}

@@ -3,10 +3,10 @@ use Rattle.std.proofs.Common.{◌≡◌, ℕ, ◌+◌, Bool, List, sym, ap, subs
 use Rattle.std.specs.Prelude.{◌⊎◌, IfOk, IfErr, IsErrAnd}
 use Rattle.fol_core.specs.declared.sent.Sent.{Sent}
 use Rattle.physical_lines.specs.Physical.{IsHeader}
-use Rattle.block_world.specs.declared.block.Block.{Block}
-use Rattle.block_world.specs.declared.reading.WorldFault.{WorldFault}
-use Rattle.block_world.specs.declared.reading.WorldFault.TheVariants as world_faults
-use Rattle.block_world.specs.WorldText.{world_fault}
+use Rattle.worlds.specs.declared.block.Block.{Block}
+use Rattle.world_text.specs.declared.reading.WorldFault.{WorldFault}
+use Rattle.world_text.specs.declared.reading.WorldFault.TheVariants as world_faults
+use Rattle.world_text.specs.WorldText.{world_fault}
 use Rattle.play_text.specs.declared.play.Play.{Play}
 use Rattle.play_text.specs.declared.play.PlayFault.{PlayFault}
 use Rattle.play_text.specs.declared.play.PlayFault.TheVariants.{Header, Form, Sentence, World, Memory}

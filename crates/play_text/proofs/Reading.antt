@@ -3,7 +3,7 @@ use Rattle.std.proofs.Common.{◌≡◌, ℕ, Bool, List, inl, inr, Result, Ok, 
 use Rattle.std.specs.Prelude.{◌⊎◌}
 use Rattle.fol_core.specs.declared.sent.Sent.{Sent}
 use Rattle.physical_lines.specs.Physical.{IsHeader}
-use Rattle.block_world.specs.declared.block.Block.{Block}
+use Rattle.worlds.specs.declared.block.Block.{Block}
 use Rattle.play_text.specs.declared.play.Play.{Play}
 use Rattle.play_text.specs.declared.play.PlayFault.{PlayFault}
 use Rattle.play_text.specs.declared.play.PlayFault.TheVariants.{Header, Form, Memory}

@@ -1,8 +1,8 @@
 -- The words of a text, one by one.
 use Rattle.std.proofs.Common.{◌≡◌, ℕ, zero, suc, ◌<◌, true, false, not, List, [], ◌∷◌, length, drop, get_or, arith, ap, length-drop}
 use Rattle.texts.specs.Blanks.{is_blank, after_blanks}
-use Rattle.block_world.specs.Lines.{words, begins_word}
-use Rattle.block_world.proofs.Wording as world
+use Rattle.world_text.specs.Lines.{words, begins_word}
+use Rattle.world_text.proofs.Wording as world
 use Rattle.physical_lines.proofs.Lengths.{after_blanks_fits}
 
 pub no_word : (t s : List ℕ) → s ≡ after_blanks t → begins_word s ≡ false → words t ≡ []

@@ -5,13 +5,13 @@ use Rattle.std.proofs.lemmas.Bool.{eqb-true}
 use Rattle.texts.specs.Cuts.{Lacks, IsCut}
 use Rattle.texts.proofs.Splitting.{lines-cut, lines-last}
 use Rattle.std.specs.Str.Lines.{lines}
-use Rattle.block_world.specs.declared.block.Block.{Block}
-use Rattle.block_world.specs.declared.reading.WorldFault.{WorldFault}
-use Rattle.block_world.specs.declared.reading.WorldFault.TheVariants.{Header, SquareTaken, NameTaken, OffBoard, Memory}
-use Rattle.block_world.specs.Geometry.{square_at, is_place}
-use Rattle.block_world.specs.Lines.{is_blank_line, is_header}
-use Rattle.block_world.specs.BlockLines.{Said, said_in, blocks_of}
-use Rattle.block_world.specs.WorldText.{is_square_taken, is_name_taken, repeats_name, fault_said, faulty_or, first_fault, fault_from, world_fault}
+use Rattle.worlds.specs.declared.block.Block.{Block}
+use Rattle.world_text.specs.declared.reading.WorldFault.{WorldFault}
+use Rattle.world_text.specs.declared.reading.WorldFault.TheVariants.{Header, SquareTaken, NameTaken, OffBoard, Memory}
+use Rattle.worlds.specs.Geometry.{square_at, is_place}
+use Rattle.world_text.specs.Lines.{is_blank_line, is_header}
+use Rattle.world_text.specs.BlockLines.{Said, said_in, blocks_of}
+use Rattle.world_text.specs.WorldText.{is_square_taken, is_name_taken, repeats_name, fault_said, faulty_or, first_fault, fault_from, world_fault}
 
 -- The fault isn't want of memory.
 abbrev pub IsPlain : Option WorldFault → Type 0

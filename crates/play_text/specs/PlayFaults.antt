@@ -6,8 +6,8 @@ use Rattle.fol_text.specs.declared.fault.ReadFault.{ReadFault}
 use Rattle.fol_text.specs.Refusals.{IsRefused}
 use Rattle.physical_lines.specs.Physical.{AreBlank, IsHeader}
 use Rattle.physical_lines.specs.Leading.{LeadsTo}
-use Rattle.block_world.specs.declared.reading.WorldFault.{WorldFault}
-use Rattle.block_world.specs.WorldText.{world_fault}
+use Rattle.world_text.specs.declared.reading.WorldFault.{WorldFault}
+use Rattle.world_text.specs.WorldText.{world_fault}
 use Rattle.play_text.specs.declared.play.PlayFault.{PlayFault}
 use Rattle.play_text.specs.declared.play.PlayFault.TheVariants.{Header, Form, Sentence, World}
 use Rattle.play_text.specs.Keywords.{IsBehind, Says}

@@ -2,8 +2,8 @@
 use Rattle.std.specs.Prelude.{◌≡◌, ◌≤◌, ℕ, Bool, true, false, List, length, map, codes, Some}
 use Rattle.fol_core.specs.declared.sent.Sent.{Sent}
 use Rattle.fol_text.specs.Readable.{IsReadable}
-use Rattle.block_world.specs.Lines.{words}
-use Rattle.block_world.specs.BlockLines.{number_of}
+use Rattle.world_text.specs.Lines.{words}
+use Rattle.world_text.specs.BlockLines.{number_of}
 use Rattle.play_text.specs.Keywords.{Says}
 
 -- The header, and the keywords of the three lines behind it.

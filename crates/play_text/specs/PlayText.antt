@@ -2,8 +2,8 @@
 use Rattle.std.specs.Prelude.{◌≡◌, ℕ, ◌+◌, List, None}
 use Rattle.physical_lines.specs.Physical.{IsHeader}
 use Rattle.physical_lines.specs.Leading.{LeadsTo}
-use Rattle.block_world.specs.declared.block.Block.{Block}
-use Rattle.block_world.specs.WorldText.{world_fault, world_of}
+use Rattle.worlds.specs.declared.block.Block.{Block}
+use Rattle.world_text.specs.WorldText.{world_fault, world_of}
 use Rattle.play_text.specs.declared.play.Play.{Play}
 use Rattle.play_text.specs.PlayLines.{play_header, IsSentenceLine, IsCommitLine, IsChoicesLine}
 

@@ -6,7 +6,7 @@ use Rattle.fol_text.specs.declared.fault.ReadFault.TheVariants as read_faults
 use Rattle.play_text.specs.declared.play.PlayFault.{PlayFault}
 use Rattle.play_text.specs.declared.play.PlayFault.TheVariants.{Form, Memory, Sentence}
 use Rattle.play_text.specs.PlayFaults.{CommitFails, ChoicesFails, SaysCommit, SaysChoices, FailsFrom, WorldFails}
-use Rattle.block_world.specs.BlockLines.{number_of}
+use Rattle.world_text.specs.BlockLines.{number_of}
 
 -- The next line that isn't blank behind the physical line `place` is this one, the physical line n, and of this kind.
 pub record IsNext (Is : List ℕ → Type 0) (place : ℕ) (text : List ℕ) (n : ℕ) (line behind : List ℕ) : Type 0 where

@@ -1,7 +1,8 @@
-use block_world::{World, WorldFault};
 use fol_core::Sent;
 use lists::Listed;
 use thiserror::Error;
+use world_text::WorldFault;
+use worlds::World;
 
 /// The numbers of the alternatives that the player chooses, in order.
 pub type Choices = Listed<u32>;

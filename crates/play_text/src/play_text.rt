@@ -10,11 +10,12 @@ ghost use Rattle.play_text.specs.Readers.{IsNext, FailsAtChoices, FailsAtCommit}
 
 use crate::lines::{said_choices, said_commitment, said_sentence};
 use crate::play::{Choices, Play, PlayFault};
-use block_world::{World, WorldFault, read_world};
 use fol_core::Sent;
 use physical_lines::{Physical, first_line};
 use std::alloc::Global;
 use texts::trim_end;
+use world_text::{WorldFault, read_world};
+use worlds::World;
 
 /// Reads a play text: the header `play 1`, the lines `sentence`, `commit` and `choices`, each with what stands behind it,
 /// and then a world text, with blank lines anywhere. A refusal has the number of the least faulty physical line, counted

@@ -2,8 +2,8 @@ ghost use Rattle.std.specs.Prelude.{◌≡◌, ◌+◌, ◌*◌, ◌-◌, ◌≤
 ghost use Rattle.std.specs.List.{list_all};
 ghost use Rattle.fol_core.specs.Word.{is_digit};
 ghost use Rattle.texts.specs.Blanks as blanks;
-ghost use Rattle.block_world.specs.Lines as lines;
-ghost use Rattle.block_world.specs.BlockLines as numbers;
+ghost use Rattle.world_text.specs.Lines as lines;
+ghost use Rattle.world_text.specs.BlockLines as numbers;
 ghost use Rattle.play_text.specs.Keywords.{IsBehind, ends_word as ends_word_of};
 
 use texts::{after_prefix, trim, trim_start};

@@ -7,9 +7,9 @@ use Rattle.std.specs.declared.alloc.AllocError.{AllocError}
 use Rattle.std.proofs.lemmas.Bool.Decides.{nat_tests}
 use Rattle.fol_core.specs.declared.sent.Sent.{Sent}
 use Rattle.deriv_laws.proofs.Lists.{flat_more}
-use Rattle.block_world.specs.declared.block.Block.{Block}
-use Rattle.block_world.specs.declared.answer.TruthFault.{TruthFault}
-use Rattle.block_world.specs.Answers.{truth_of}
+use Rattle.worlds.specs.declared.block.Block.{Block}
+use Rattle.world_truth.specs.declared.answer.TruthFault.{TruthFault}
+use Rattle.world_truth.specs.Answers.{truth_of}
 use Rattle.sentence_lists.specs.declared.list.ListFault.{ListFault}
 use Rattle.sentence_lists.specs.declared.list.ListFault.TheVariants.{Sentence, TooManySentences, Memory}
 use Rattle.sentence_lists.specs.SentenceLines.{SpellAtMost, ListFails, refused_line as refused_here, one_too_many, past_blank, past_sentence}

@@ -4,8 +4,8 @@ use Rattle.std.specs.Prelude.{◌⊎◌, IsTrue}
 use Rattle.fol_core.specs.Closed.{closed}
 use Rattle.fol_core.specs.Size.{within_limits}
 use Rattle.std.specs.declared.alloc.AllocError.{AllocError}
-use Rattle.block_world.specs.declared.answer.TruthFault.{TruthFault}
-use Rattle.block_world.specs.Answers.{truth_of}
+use Rattle.world_truth.specs.declared.answer.TruthFault.{TruthFault}
+use Rattle.world_truth.specs.Answers.{truth_of}
 use Rattle.hintikka_game.specs.declared.game.GameFault.{GameFault}
 use Rattle.hintikka_game.specs.declared.game.GameFault.TheVariants as game
 use Rattle.hintikka_game.specs.declared.replaying.Played.{Played}

@@ -1,8 +1,8 @@
 -- The command `play`: the game that the input describes is played with the choices that it gives.
 use Rattle.std.specs.Prelude.{◌≡◌, ℕ, Bool, List, [], ◌∷◌, ◌++◌, Option, Some, None, Ok, Err, codes}
 use Rattle.std.specs.List.{flat_map}
-use Rattle.block_world.specs.declared.answer.TruthFault.{TruthFault}
-use Rattle.block_world.specs.Answers.{truth_of}
+use Rattle.world_truth.specs.declared.answer.TruthFault.{TruthFault}
+use Rattle.world_truth.specs.Answers.{truth_of}
 use Rattle.hintikka_game.specs.declared.game.GameFault.{GameFault}
 use Rattle.hintikka_game.specs.declared.replaying.PlayEnd.{PlayEnd}
 use Rattle.hintikka_game.specs.declared.replaying.PlayEnd.TheVariants.{Won, Lost, Waiting}

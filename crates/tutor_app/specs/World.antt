@@ -4,11 +4,11 @@ use Rattle.std.specs.List.{flat_map}
 use Rattle.std.specs.Str.Lines.{lines}
 use Rattle.fol_core.specs.declared.sent.Sent.{Sent}
 use Rattle.fol_text.specs.declared.fault.ReadFault.{ReadFault}
-use Rattle.block_world.specs.declared.block.Block.{Block}
-use Rattle.block_world.specs.declared.answer.TruthFault.{TruthFault}
+use Rattle.worlds.specs.declared.block.Block.{Block}
+use Rattle.world_truth.specs.declared.answer.TruthFault.{TruthFault}
 use Rattle.fault_words.specs.WorldFaults.{truth_fault_text}
-use Rattle.block_world.specs.Answers.{truth_of}
-use Rattle.block_world.specs.WorldText.{world_fault, world_of}
+use Rattle.world_truth.specs.Answers.{truth_of}
+use Rattle.world_text.specs.WorldText.{world_fault, world_of}
 use Rattle.sentence_lists.specs.declared.list.ListFault.TheVariants.{Sentence}
 use Rattle.sentence_lists.specs.SentenceLines.{SpellAtMost, ListFails}
 use Rattle.fault_words.specs.SentenceFaults.{list_fault_text}

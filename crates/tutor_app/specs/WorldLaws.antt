@@ -2,7 +2,7 @@
 use Rattle.std.specs.Prelude.{◌≡◌, ℕ, List, refl}
 use Rattle.std.specs.Str.Lines.{lines}
 use Rattle.std.proofs.Common.{ap, ap₂, inl, inr}
-use Rattle.block_world.specs.declared.block.Block.{Block}
+use Rattle.worlds.specs.declared.block.Block.{Block}
 use Rattle.sentence_lists.specs.declared.list.ListFault.TheVariants.{Sentence}
 use Rattle.sentence_lists.proofs.Once.{list_once, fault_once, never_both}
 use Rattle.tutor_app.specs.World.{world_answers, answered_each, refused_line, answers_reply}

@@ -1,7 +1,7 @@
 use Rattle.std.proofs.Common.{◌∷◌, ap₂, sym, ◌∙◌, arith}
 use Rattle.std.specs.Prelude.{ℕ, List}
-use Rattle.block_world.specs.Lines.{words}
-use Rattle.block_world.proofs.Wording.{split_at_blank, split_at_end}
+use Rattle.world_text.specs.Lines.{words}
+use Rattle.world_text.proofs.Wording.{split_at_blank, split_at_end}
 use Rattle.play_text.proofs.Wording.{shorter_back, word_some}
 use Rattle.play_text.proofs.words.split_word.Goals as goal
 

@@ -1,5 +1,5 @@
 use Rattle.std.proofs.Common.{◌≡◌, true, take}
-use Rattle.block_world.proofs.Wording.{no_blank}
+use Rattle.world_text.proofs.Wording.{no_blank}
 use Rattle.play_text.proofs.words.split_word.Given as goal
 
 abbrev pub invariant-loop-place : goal.invariant-loop-place

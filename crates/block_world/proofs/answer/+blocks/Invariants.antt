@@ -1,7 +1,0 @@
-use Rattle.std.proofs.Common.{◌≡◌, take, true}
-use Rattle.std.specs.List.{list_all}
-use Rattle.block_world.specs.Answers.{in_blocks}
-use Rattle.block_world.proofs.answer.+blocks.Given as goal
-
-abbrev pub invariant-are_of_blocks-loop-part : goal.invariant-are_of_blocks-loop-part
-invariant-are_of_blocks-loop-part l = list_all in_blocks (take l.part-index l.parts) ≡ true

@@ -1,7 +1,0 @@
-use Rattle.std.proofs.Common.{◌≡◌, take, true}
-use Rattle.std.specs.List.{list_all}
-use Rattle.block_world.specs.Answers.{all_borne}
-use Rattle.block_world.proofs.answer.+borne.Given as goal
-
-abbrev pub invariant-are_borne_in_all-loop-part : goal.invariant-are_borne_in_all-loop-part
-invariant-are_borne_in_all-loop-part l = list_all (all_borne l.w) (take l.part-index l.parts) ≡ true

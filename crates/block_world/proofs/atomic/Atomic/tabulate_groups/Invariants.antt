@@ -1,8 +1,0 @@
-use Rattle.std.specs.Prelude.{◌<◌, ◌*◌, ℕ, length}
-use Rattle.block_world.specs.inside.Extensions.{IsExtension}
-use Rattle.block_world.specs.Referents.{value_by}
-use Rattle.block_world.specs.Tables.{bits_in}
-use Rattle.block_world.proofs.atomic.Atomic.tabulate_groups.Given as goal
-
-abbrev pub invariant-loop-group : goal.invariant-loop-group
-invariant-loop-group l = (r : ℕ) → r < l.group * length l.world → IsExtension l.extent.columns (value_by l.world l.fn.self r) (bits_in l.table r)

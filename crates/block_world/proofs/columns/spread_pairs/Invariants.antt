@@ -1,9 +1,0 @@
-use Rattle.std.specs.Prelude.{◌+◌, ◌&&◌, nat_lt, length}
-use Rattle.block_world.specs.inside.Extensions.{IsExtension}
-use Rattle.block_world.specs.Digits.{digit_of}
-use Rattle.block_world.specs.Relations.{relates}
-use Rattle.block_world.proofs.columns.spread_pairs.Given as goal
-
-abbrev pub invariant-loop-place : goal.invariant-loop-place
-invariant-loop-place l =
-    IsExtension l.columns (λ c. nat_lt (digit_of (length l.world) l.second c) l.place && relates l.world l.relation (digit_of (length l.world) l.first c + 1) (digit_of (length l.world) l.second c + 1)) l.pairs.bits

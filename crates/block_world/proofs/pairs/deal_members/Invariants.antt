@@ -1,8 +1,0 @@
-use Rattle.std.proofs.Common.{◌≡◌, ◌<◌, ℕ, length}
-use Rattle.bit_sets.specs.BitSets.{has}
-use Rattle.block_world.specs.Digits.{digit_of}
-use Rattle.block_world.proofs.Filling.{AreFilled}
-use Rattle.block_world.proofs.pairs.deal_members.Given as goal
-
-abbrev pub invariant-loop-row : goal.invariant-loop-row
-invariant-loop-row l = AreFilled (λ r bits. (k : ℕ) → k < 64 → has bits k ≡ has l.set.bits (digit_of (length l.world) l.stride r)) l.fn.table l.row l.table

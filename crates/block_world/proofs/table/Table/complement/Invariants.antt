@@ -1,6 +1,0 @@
-use Rattle.block_world.specs.Tables.{bits_in, IsComplement}
-use Rattle.block_world.proofs.Filling.{AreFilled}
-use Rattle.block_world.proofs.table.Table.complement.Given as goal
-
-abbrev pub invariant-loop-row : goal.invariant-loop-row
-invariant-loop-row l = AreFilled (λ r. IsComplement (bits_in l.fn.self r)) l.fn.self l.row l.self

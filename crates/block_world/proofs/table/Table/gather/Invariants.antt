@@ -1,6 +1,0 @@
-use Rattle.block_world.specs.Tables.{bits_in, AreGathered}
-use Rattle.block_world.proofs.Filling.{AreFilled}
-use Rattle.block_world.proofs.table.Table.gather.Given as goal
-
-abbrev pub invariant-loop-row : goal.invariant-loop-row
-invariant-loop-row l = AreFilled (λ r. AreGathered l.junction l.columns l.count (bits_in l.fn.self r)) l.fn.self l.row l.self

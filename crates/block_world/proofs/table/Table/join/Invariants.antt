@@ -1,6 +1,0 @@
-use Rattle.block_world.specs.Tables.{bits_in, IsJoin}
-use Rattle.block_world.proofs.Filling.{AreFilled}
-use Rattle.block_world.proofs.table.Table.join.Given as goal
-
-abbrev pub invariant-loop-row : goal.invariant-loop-row
-invariant-loop-row l = AreFilled (λ r. IsJoin l.connective (bits_in l.fn.self r) (bits_in l.other r)) l.fn.self l.row l.self

@@ -1,7 +1,0 @@
-use Rattle.std.proofs.Common.{◌*◌}
-use Rattle.block_world.proofs.Filling.{AreFilled}
-use Rattle.block_world.specs.Tables.{IsGroup}
-use Rattle.block_world.proofs.table.Table.join_groups.Given as goal
-
-abbrev pub invariant-loop-row : goal.invariant-loop-row
-invariant-loop-row l = AreFilled (λ r. IsGroup l.junction l.fn.self (r * l.count) l.count) l.fn.self l.row l.self

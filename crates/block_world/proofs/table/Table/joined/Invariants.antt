@@ -1,5 +1,0 @@
-use Rattle.block_world.specs.Tables.{IsGroup}
-use Rattle.block_world.proofs.table.Table.joined.Given as goal
-
-abbrev pub invariant-loop-before : goal.invariant-loop-before
-invariant-loop-before l = IsGroup l.junction l.self l.first l.before l.set.bits

@@ -1,6 +1,0 @@
-use Rattle.std.proofs.Common.{◌∙◌}
-use Rattle.block_world.proofs.Saturating.{product}
-use Rattle.block_world.proofs.units.repeated.Goals as goal
-
-pub returns : goal.returns
-returns c = record { value = λ n e. c.saturating_add.ensures ∙ product n c.args.count c.args.units c.saturating_mul.result e c.saturating_mul.ensures }

@@ -1,9 +1,0 @@
--- Blocks that are given for variables.
-use Rattle.std.specs.Prelude.{List, [], ◌∷◌}
-use Rattle.block_world.specs.declared.answer.Place.{Place}
-use Rattle.block_world.specs.Assignments.{Assignment, put}
-
--- The places put over an assignment one by one, so that the last one for a variable counts.
-abbrev pub given : List Place → Assignment → Assignment
-given [] a = a
-given (p ∷ ps) a = given ps (put p.variable p.block a)

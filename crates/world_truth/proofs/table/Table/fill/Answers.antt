@@ -1,0 +1,9 @@
+use Rattle.std.proofs.Common.{refl}
+use Rattle.world_truth.proofs.Filling.{none_filled, more_filled}
+use Rattle.world_truth.proofs.table.Table.fill.Goals as goal
+
+pub loop-row-init : goal.loop-row-init
+loop-row-init c = none_filled _ c.args.self.now
+
+pub loop-row-preserved : goal.loop-row-preserved
+loop-row-preserved c = more_filled _ c.args.self.now c.loop-row.self c.put.new.self c.loop-row.row _ c.loop-row.invariant c.put.ensures.here c.put.ensures.elsewhere refl

@@ -1,0 +1,9 @@
+pub mod BoardLines
+pub mod Places
+pub mod Bound
+pub mod Tables
+pub mod Digits
+pub mod Relations
+pub mod Referents
+pub mod Work
+pub mod Answers

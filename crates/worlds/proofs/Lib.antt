@@ -1,0 +1,5 @@
+pub mod Assigning
+pub mod Bearing
+pub mod Ending
+pub mod Marking
+pub mod Scaling

@@ -1,0 +1,10 @@
+pub mod Geometry
+pub mod inside
+pub mod Predicates
+pub mod Endings
+pub mod Worlds
+pub mod Scales
+pub mod Invariants
+pub mod Assignments
+pub mod AssignmentLaws
+pub mod Truth
