@@ -13,7 +13,7 @@ use Rattle.world_text.specs.declared.reading.WorldFault.TheVariants.{Header}
 use Rattle.world_text.specs.Lines.{is_blank_line, is_header, behind_header, words}
 use Rattle.world_text.specs.BlockLines.{Said, said_in, said_by, block_said, blocks_of}
 use Rattle.world_text.specs.WorldText.{fault_said, faulty_or, first_fault, fault_from}
-use Rattle.world_text.specs.Squares.{Holds}
+use Rattle.world_text.specs.inside.Squares.{Holds}
 
 -- The reader is at the rest: the blocks of the lines before it stand on the board, and none of these lines is faulty.
 pub record Reads (header : ℕ) (text : List ℕ) (place : ℕ) (rest : List ℕ) (board : Squares) : Type 0 where

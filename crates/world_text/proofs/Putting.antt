@@ -13,7 +13,7 @@ use Rattle.worlds.specs.Geometry.{bears, square, square_at, is_place}
 use Rattle.worlds.specs.Worlds.{IsWorld}
 use Rattle.world_text.specs.BlockLines.{Said, stands_in, may_name, said_in, block_by, block_said, blocks_of}
 use Rattle.world_text.specs.WorldText.{is_name_taken, is_square_taken, repeats_name, fault_said, by_squares}
-use Rattle.world_text.specs.Squares.{Holds, HoldsSome}
+use Rattle.world_text.specs.inside.Squares.{Holds, HoldsSome}
 use Rattle.world_text.proofs.Naming.{bears_stands}
 use Rattle.world_text.proofs.Squaring.{on, found, on_square, put_on, not_given, single_pushed, taken_pushed, board_pushed, squares_world, few_squares, through_map}
 

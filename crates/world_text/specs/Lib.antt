@@ -1,5 +1,5 @@
 pub mod Lines
 pub mod BlockLines
 pub mod WorldText
-pub mod Squares
 pub mod Printed
+pub mod inside

@@ -4,7 +4,7 @@ ghost use Rattle.fol_core.specs.Word.{is_digit};
 ghost use Rattle.texts.specs.Blanks as blanks;
 ghost use Rattle.world_text.specs.Lines as lines;
 ghost use Rattle.world_text.specs.BlockLines as spec;
-ghost use Rattle.world_text.specs.Squares.{said_as};
+ghost use Rattle.world_text.specs.inside.Squares.{said_as};
 
 use texts::trim_start;
 use worlds::{Names, Shape, Size};

@@ -4,7 +4,7 @@ ghost use Rattle.world_text.specs.Lines as spec;
 ghost use Rattle.world_text.specs.Lines.{behind_header};
 ghost use Rattle.world_text.specs.BlockLines.{blocks_of};
 ghost use Rattle.world_text.specs.WorldText.{fault_from, first_fault, world_fault, world_of};
-ghost use Rattle.world_text.specs.Squares.{Holds};
+ghost use Rattle.world_text.specs.inside.Squares.{Holds};
 
 use crate::squares::Squares;
 use std::alloc::Global;

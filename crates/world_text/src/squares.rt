@@ -4,7 +4,7 @@ ghost use Rattle.std.specs.List.{slice_set, cons_option};
 ghost use Rattle.worlds.specs.Geometry as geometry;
 ghost use Rattle.world_text.specs.BlockLines.{said_in as says, blocks_of, block_by};
 ghost use Rattle.world_text.specs.WorldText.{fault_said, is_square_taken, is_name_taken, repeats_name, by_squares};
-ghost use Rattle.world_text.specs.Squares.{Holds, HoldsSome, as_said};
+ghost use Rattle.world_text.specs.inside.Squares.{Holds, HoldsSome, as_said};
 
 use crate::line::{Said, may_name, names_in, said_in, stands_in};
 use crate::reading::WorldFault;

@@ -4,8 +4,8 @@ use Rattle.std.specs.Prelude.{◌/◌}
 use Rattle.std.proofs.Math.Nat.{div-le_self, mod-le}
 use Rattle.std.proofs.lemmas.Bool.{cases_order}
 use Rattle.world_truth.specs.declared.table.Table.{Table}
-use Rattle.world_truth.specs.Digits.{digit_of}
-use Rattle.world_truth.specs.Tables.{bits_in}
+use Rattle.world_truth.specs.inside.Digits.{digit_of}
+use Rattle.world_truth.specs.inside.Tables.{bits_in}
 use Rattle.worlds.proofs.Marking.{apart_by}
 
 -- Of so many rows the last ones, as many as are counted, have one property, and those before them still have another.

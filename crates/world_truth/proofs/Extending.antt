@@ -17,8 +17,8 @@ use Rattle.world_truth.specs.declared.table.Table.{Table}
 use Rattle.worlds.specs.Assignments.{Assignment, put}
 use Rattle.bit_sets.specs.BitSets.{has, HasAll, LacksOne, HasOne, HasNone}
 use Rattle.worlds.specs.inside.Extensions.{IsExtension}
-use Rattle.world_truth.specs.Bound.{standing}
-use Rattle.world_truth.specs.Tables.{bits_in, connect, join_two, joined, of_none, AreExtensions, AreGathered, IsGroup, IsJoin}
+use Rattle.world_truth.specs.inside.Bound.{standing}
+use Rattle.world_truth.specs.inside.Tables.{bits_in, connect, join_two, joined, of_none, AreExtensions, AreGathered, IsGroup, IsJoin}
 use Rattle.worlds.specs.Truth.{val}
 use Rattle.worlds.specs.Worlds.{numbers}
 use Rattle.world_truth.proofs.Forms.{val_and, val_or, val_if, val_iff, val_all, val_ex}

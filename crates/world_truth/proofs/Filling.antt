@@ -2,7 +2,7 @@
 use Rattle.std.proofs.Common.{◌≡◌, ◌≢◌, ℕ, zero, suc, ◌+◌, ◌*◌, ◌<◌, ◌≤◌, refl, ◌∙◌, subst, sym, arith, mul-suc, inl, inr}
 use Rattle.std.proofs.lemmas.Bool.{cases_order}
 use Rattle.world_truth.specs.declared.table.Table.{Table}
-use Rattle.world_truth.specs.Tables.{bits_in}
+use Rattle.world_truth.specs.inside.Tables.{bits_in}
 use Rattle.worlds.proofs.Marking.{apart_by}
 
 -- In the first rows, so many, the bits are as the property says, and the other rows are as they were.

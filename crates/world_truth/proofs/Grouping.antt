@@ -2,7 +2,7 @@
 use Rattle.std.proofs.Common.{◌≡◌, ◌≢◌, ℕ, ◌+◌, ◌-◌, ◌*◌, ◌<◌, ◌≤◌, ap, mul_comm, mul-suc, sym, ◌∙◌, subst, arith, inl, inr}
 use Rattle.std.proofs.lemmas.Bool.{cases_order, cases_lt}
 use Rattle.world_truth.specs.declared.table.Table.{Table}
-use Rattle.world_truth.specs.Tables.{bits_in}
+use Rattle.world_truth.specs.inside.Tables.{bits_in}
 use Rattle.worlds.proofs.Marking.{apart_by}
 
 -- From the row first on, so many rows have one property, by their places in the group, those after them still have another,

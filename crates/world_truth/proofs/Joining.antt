@@ -7,7 +7,7 @@ use Rattle.std.proofs.lemmas.List.Folds.{list_all_more, list_any_more}
 use Rattle.worlds.specs.declared.block.Block.{Block}
 use Rattle.world_truth.specs.declared.junction.Junction.{Junction}
 use Rattle.world_truth.specs.declared.junction.Junction.TheVariants.{Every, Any}
-use Rattle.world_truth.specs.Tables.{joined, join_two, of_none}
+use Rattle.world_truth.specs.inside.Tables.{joined, join_two, of_none}
 use Rattle.worlds.specs.Worlds.{numbers}
 use Rattle.world_truth.proofs.Numbers.{number_at_place, within, all_taken}
 

@@ -12,7 +12,7 @@ use Rattle.worlds.specs.declared.scales.Measure.{Measure}
 use Rattle.worlds.specs.declared.scales.Measure.TheVariants as m
 use Rattle.bit_sets.specs.BitSets.{has}
 use Rattle.worlds.specs.Geometry.{is_on_board, is_between, is_inside, on_rising, square}
-use Rattle.world_truth.specs.BoardLines.{line_at, measures_same, AreLines}
+use Rattle.world_truth.specs.inside.BoardLines.{line_at, measures_same, AreLines}
 use Rattle.worlds.specs.Predicates.{says}
 use Rattle.worlds.specs.Scales.{measure_of, IsSetOf}
 use Rattle.worlds.specs.Worlds.{block_at, in_order, IsWorld}

@@ -10,7 +10,7 @@ use Rattle.world_truth.specs.declared.bound.Bound.{Bound, ind-Bound, roll-Bound,
 use Rattle.world_truth.specs.declared.bound.Bound.TheOpen.{Bound-F}
 use Rattle.world_truth.specs.declared.bound.Bound.TheOpen as f
 use Rattle.worlds.specs.Assignments.{Assignment, number_at, value_for, put, own_names}
-use Rattle.world_truth.specs.Bound.{standing, standing_step}
+use Rattle.world_truth.specs.inside.Bound.{standing, standing_step}
 use Rattle.world_truth.specs.Places.{given}
 use Rattle.world_truth.proofs.Terms.{number_app}
 

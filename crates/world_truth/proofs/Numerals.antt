@@ -5,7 +5,7 @@ use Rattle.std.proofs.lemmas.Nat.{div-mul-add, mod-mul-add, mod_below}
 use Rattle.worlds.specs.declared.block.Block.{Block}
 use Rattle.world_truth.specs.declared.digits.Digits.{Digits}
 use Rattle.world_truth.specs.declared.digits.Referent.TheVariants.{ByColumn, ByRow}
-use Rattle.world_truth.specs.Digits.{case_of, digit_of, number_by}
+use Rattle.world_truth.specs.inside.Digits.{case_of, digit_of, number_by}
 
 pub low_of_case : (n : ℕ) (d : Digits) (r : ℕ) → 0 < n → digit_of n 1 (case_of n d r) ≡ digit_of n d.low r
 low_of_case n d r some = ap (λ c. c % n) (div-one (case_of n d r)) ∙ mod-mul-add (digit_of n d.high r) n (digit_of n d.low r) (mod_below (r / d.low) n some)

@@ -5,7 +5,7 @@ use Rattle.std.proofs.lemmas.Nat.{mod_below}
 use Rattle.worlds.specs.declared.block.Block.{Block}
 use Rattle.bit_sets.specs.BitSets.{has}
 use Rattle.worlds.specs.inside.Extensions.{IsExtension}
-use Rattle.world_truth.specs.Digits.{digit_of}
+use Rattle.world_truth.specs.inside.Digits.{digit_of}
 
 pub at_digit : (w : List Block) (f : ℕ → Bool) (set stride r : ℕ) → 0 < length w → length w ≤ 64 → IsExtension (length w) f set → has set (digit_of (length w) stride r) ≡ f (digit_of (length w) stride r)
 at_digit w f set stride r some few h = let low = mod_below (r / stride) (length w) some in h (digit_of (length w) stride r) low (omega (arith, low, few))

@@ -6,7 +6,7 @@ use Rattle.std.proofs.lemmas.Nat.{le-div}
 use Rattle.std.proofs.lemmas.Bool.{cases_lt, cases_order, lt-ltb, le-ltb, le-leb, lt-leb, eq-eqb, ne_eqb}
 use native.Mathlib.Nat.{div-eq_of_lt}
 use Rattle.bit_sets.specs.BitSets.{has}
-use Rattle.world_truth.specs.Digits.{digit_of}
+use Rattle.world_truth.specs.inside.Digits.{digit_of}
 
 left_only : (a b : Bool) → b ≡ false → (a || b) ≡ a
 left_only true b e = refl

@@ -10,7 +10,7 @@ use Rattle.worlds.specs.declared.block.Block.{Block}
 use Rattle.world_truth.specs.declared.bound.Bound.{Bound, the_lemmas}
 use Rattle.world_truth.specs.declared.bound.Bound.TheVariants as b
 use Rattle.worlds.specs.Assignments.{put, variable_at, name_at, own_names}
-use Rattle.world_truth.specs.Bound.{standing}
+use Rattle.world_truth.specs.inside.Bound.{standing}
 use Rattle.world_truth.specs.Places.{given}
 
 pub standing_given : (places : Bor (List Place)) (w : List Block) (r k : ℕ) → standing (b.Given places) w r k ≡ given places.now (own_names w)

@@ -1,9 +1,4 @@
-pub mod BoardLines
 pub mod Places
-pub mod Bound
-pub mod Tables
-pub mod Digits
-pub mod Relations
-pub mod Referents
 pub mod Work
 pub mod Answers
+pub mod inside

@@ -2,13 +2,13 @@ ghost use Rattle.std.specs.Prelude.{◌≡◌, ◌<◌, ◌+◌, ◌*◌, ℕ, L
 ghost use Rattle.fol_core.specs.declared.sent.Term.{Term as SentTerm};
 ghost use Rattle.worlds.specs.declared.block.Block.{Block as Standing};
 ghost use Rattle.worlds.specs.Assignments.{block_of as stands_for};
-ghost use Rattle.world_truth.specs.Bound.{standing};
-ghost use Rattle.world_truth.specs.Digits.{case_of, digit_of};
+ghost use Rattle.world_truth.specs.inside.Bound.{standing};
+ghost use Rattle.world_truth.specs.inside.Digits.{case_of, digit_of};
 ghost use Rattle.worlds.specs.Predicates.{says};
-ghost use Rattle.world_truth.specs.Referents.{value_by};
+ghost use Rattle.world_truth.specs.inside.Referents.{value_by};
 ghost use Rattle.world_truth.specs.declared.atomic.Atomic.TheVariants.{Three};
 ghost use Rattle.world_truth.specs.declared.digits.Referent.TheVariants.{ByColumn, ByRow};
-ghost use Rattle.world_truth.specs.Relations.{about, relates};
+ghost use Rattle.world_truth.specs.inside.Relations.{about, relates};
 
 use crate::bound::{Bound, referent_of};
 use crate::digits::{Digits, Referent};

@@ -2,10 +2,10 @@ ghost use Rattle.std.specs.Prelude.{◌≡◌, ◌+◌, ◌<◌, ◌≤◌, ℕ,
 ghost use Rattle.worlds.specs.declared.block.Block.{Block as Standing};
 ghost use Rattle.worlds.specs.declared.predicate.Predicate.TheVariants.{Between};
 ghost use Rattle.bit_sets.specs.BitSets.{has};
-ghost use Rattle.world_truth.specs.BoardLines.{line_at, AreLines};
+ghost use Rattle.world_truth.specs.inside.BoardLines.{line_at, AreLines};
 ghost use Rattle.worlds.specs.Predicates.{says};
 ghost use Rattle.worlds.specs.Scales.{IsSetOf};
-ghost use Rattle.world_truth.specs.Tables.{bits_in};
+ghost use Rattle.world_truth.specs.inside.Tables.{bits_in};
 ghost use Rattle.worlds.specs.Worlds.{block_at};
 
 use crate::table::Table;

@@ -1,9 +1,9 @@
 ghost use Rattle.std.specs.Prelude.{◌≡◌, ◌<◌, ◌/◌, ℕ, length, if◌then◌else◌};
 ghost use Rattle.std.specs.Str.{bytes_eq};
 ghost use Rattle.worlds.specs.Assignments.{name_at, number_at, own_names, variable_at};
-ghost use Rattle.world_truth.specs.Bound.{standing};
+ghost use Rattle.world_truth.specs.inside.Bound.{standing};
 ghost use Rattle.world_truth.specs.Places.{given};
-ghost use Rattle.world_truth.specs.Digits.{number_by};
+ghost use Rattle.world_truth.specs.inside.Digits.{number_by};
 
 use crate::answer::Place;
 use crate::digits::Referent;

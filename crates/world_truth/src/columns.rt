@@ -2,9 +2,9 @@ ghost use Rattle.std.specs.Prelude.{◌≡◌, ◌<◌, ◌≤◌, ◌+◌, ◌*
 ghost use Rattle.std.specs.List.{range_with_len};
 ghost use Rattle.bit_sets.specs.BitSets.{has};
 ghost use Rattle.worlds.specs.inside.Extensions.{IsExtension};
-ghost use Rattle.world_truth.specs.Digits.{digit_of};
-ghost use Rattle.world_truth.specs.Relations.{relates};
-ghost use Rattle.world_truth.specs.Tables.{joined, AreGathered};
+ghost use Rattle.world_truth.specs.inside.Digits.{digit_of};
+ghost use Rattle.world_truth.specs.inside.Relations.{relates};
+ghost use Rattle.world_truth.specs.inside.Tables.{joined, AreGathered};
 
 use crate::junction::Junction;
 use crate::relation::Relation;

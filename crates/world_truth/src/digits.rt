@@ -1,5 +1,5 @@
 ghost use Rattle.std.specs.Prelude.{◌≡◌, ◌<◌, ◌≤◌, ℕ, true, IfSome};
-ghost use Rattle.world_truth.specs.Digits.{case_of, digit_of, number_by};
+ghost use Rattle.world_truth.specs.inside.Digits.{case_of, digit_of, number_by};
 
 /// What block a term stands for.
 #[derive(Clone, Copy)]

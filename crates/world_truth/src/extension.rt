@@ -1,8 +1,8 @@
 ghost use Rattle.std.specs.Prelude.{◌≡◌, ◌<◌, ◌≤◌, ◌*◌, ℕ, Bool, map, length};
 ghost use Rattle.worlds.specs.Assignments.{put, block_of as stands_for};
-ghost use Rattle.world_truth.specs.Bound.{standing};
+ghost use Rattle.world_truth.specs.inside.Bound.{standing};
 ghost use Rattle.worlds.specs.Predicates as predicates;
-ghost use Rattle.world_truth.specs.Tables.{AreExtensions, connect, joined};
+ghost use Rattle.world_truth.specs.inside.Tables.{AreExtensions, connect, joined};
 ghost use Rattle.worlds.specs.Truth.{val};
 ghost use Rattle.worlds.specs.Worlds.{numbers};
 

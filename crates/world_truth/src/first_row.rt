@@ -1,6 +1,6 @@
 ghost use Rattle.std.specs.Prelude.{◌≡◌, ◌<◌, ◌≤◌, length};
 ghost use Rattle.worlds.specs.inside.Extensions.{IsExtension};
-ghost use Rattle.world_truth.specs.Referents.{value_by};
+ghost use Rattle.world_truth.specs.inside.Referents.{value_by};
 
 use crate::atomic::Atomic;
 use crate::columns::{spread, spread_pairs};

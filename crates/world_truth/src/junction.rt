@@ -1,6 +1,6 @@
 ghost use Rattle.std.specs.Prelude.{◌≡◌, ◌<◌, ℕ};
 ghost use Rattle.bit_sets.specs.BitSets.{has};
-ghost use Rattle.world_truth.specs.Tables as tables;
+ghost use Rattle.world_truth.specs.inside.Tables as tables;
 
 use bit_sets::BitSet;
 

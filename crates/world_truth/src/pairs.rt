@@ -1,8 +1,8 @@
 ghost use Rattle.std.specs.Prelude.{◌≡◌, ◌<◌, ◌≤◌, ◌+◌, ℕ, length};
 ghost use Rattle.bit_sets.specs.BitSets.{has};
-ghost use Rattle.world_truth.specs.Digits.{digit_of};
-ghost use Rattle.world_truth.specs.Referents.{value_by, ArePairsInColumns};
-ghost use Rattle.world_truth.specs.Tables.{bits_in, AreExtensions};
+ghost use Rattle.world_truth.specs.inside.Digits.{digit_of};
+ghost use Rattle.world_truth.specs.inside.Referents.{value_by, ArePairsInColumns};
+ghost use Rattle.world_truth.specs.inside.Tables.{bits_in, AreExtensions};
 ghost use Rattle.world_truth.specs.declared.atomic.Atomic.TheVariants.{One, Two};
 ghost use Rattle.world_truth.specs.declared.digits.Referent.TheVariants as ref;
 

@@ -4,9 +4,9 @@ ghost use Rattle.worlds.specs.declared.predicate.Predicate.TheVariants.{Between 
 ghost use Rattle.bit_sets.specs.BitSets.{has};
 ghost use Rattle.worlds.specs.inside.Extensions.{IsExtension};
 ghost use Rattle.worlds.specs.Predicates.{says};
-ghost use Rattle.world_truth.specs.Referents.{ArePairs};
-ghost use Rattle.world_truth.specs.Relations.{about, relates};
-ghost use Rattle.world_truth.specs.Tables.{bits_in};
+ghost use Rattle.world_truth.specs.inside.Referents.{ArePairs};
+ghost use Rattle.world_truth.specs.inside.Relations.{about, relates};
+ghost use Rattle.world_truth.specs.inside.Tables.{bits_in};
 ghost use Rattle.worlds.specs.Worlds.{block_at};
 
 use crate::betweenness::{between, beyond, put_around, put_behind, put_between};

@@ -1,5 +1,5 @@
 ghost use Rattle.std.specs.Prelude.{◌≡◌, ◌<◌, ◌≤◌, ◌≢◌, ◌*◌, ◌+◌, ℕ};
-ghost use Rattle.world_truth.specs.Tables.{bits_in, IsComplement, IsGroup, IsJoin, AreGathered};
+ghost use Rattle.world_truth.specs.inside.Tables.{bits_in, IsComplement, IsGroup, IsJoin, AreGathered};
 
 use crate::columns::gathered;
 use crate::junction::{Connective, Junction};

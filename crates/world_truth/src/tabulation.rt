@@ -1,7 +1,7 @@
 ghost use Rattle.std.specs.Prelude.{◌≡◌, ◌<◌, ◌≤◌, ℕ, true, length};
-ghost use Rattle.world_truth.specs.Digits.{case_of};
-ghost use Rattle.world_truth.specs.Referents.{value_by};
-ghost use Rattle.world_truth.specs.Tables.{bits_in, AreExtensions};
+ghost use Rattle.world_truth.specs.inside.Digits.{case_of};
+ghost use Rattle.world_truth.specs.inside.Referents.{value_by};
+ghost use Rattle.world_truth.specs.inside.Tables.{bits_in, AreExtensions};
 
 use crate::atomic::Atomic;
 use crate::digits::Digits;

@@ -8,7 +8,7 @@ use Rattle.fol_core.specs.Word.{Word}
 use Rattle.fol_core.proofs.Equality.{word_same}
 use Rattle.worlds.specs.declared.predicate.Predicate.{Predicate}
 use Rattle.worlds.specs.declared.predicate.Predicate.TheVariants as p
-use Rattle.worlds.specs.Endings.{last_letter, ends_in}
+use Rattle.worlds.specs.inside.Endings.{last_letter, ends_in}
 use Rattle.worlds.specs.Predicates.{word_of, predicates, predicate_of}
 
 -- a test that only holds where another one does is first met among what that one leaves

@@ -1,7 +1,6 @@
 pub mod Geometry
 pub mod inside
 pub mod Predicates
-pub mod Endings
 pub mod Worlds
 pub mod Scales
 pub mod Invariants

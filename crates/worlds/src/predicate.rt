@@ -3,7 +3,7 @@ ghost use Rattle.std.specs.List.{find, filter};
 ghost use Rattle.std.specs.Str.{bytes_eq};
 ghost use Rattle.worlds.specs.declared.block.Block.{Block as Standing};
 ghost use Rattle.worlds.specs.Predicates as spec;
-ghost use Rattle.worlds.specs.Endings.{ends_in};
+ghost use Rattle.worlds.specs.inside.Endings.{ends_in};
 ghost use Rattle.worlds.specs.Geometry as geometry;
 
 use crate::block::Block;

@@ -1,6 +1,6 @@
 use Rattle.std.proofs.Common.{◌≡◌, ℕ, ◌+◌, [], ◌∷◌, ◌∙◌, inl, inr}
 use Rattle.worlds.specs.declared.predicate.Predicate.TheVariants.{Between}
-use Rattle.world_truth.specs.Digits.{digit_of}
+use Rattle.world_truth.specs.inside.Digits.{digit_of}
 use Rattle.worlds.specs.Predicates.{says}
 use Rattle.worlds.specs.Worlds.{block_at}
 use Rattle.world_truth.proofs.Numerals.{in_group_said}

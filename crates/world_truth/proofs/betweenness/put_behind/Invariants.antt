@@ -3,7 +3,7 @@ use Rattle.worlds.specs.declared.predicate.Predicate.TheVariants.{Between}
 use Rattle.worlds.specs.Predicates.{says}
 use Rattle.worlds.specs.Scales.{IsSetOf}
 use Rattle.worlds.specs.Worlds.{block_at}
-use Rattle.world_truth.specs.Tables.{bits_in}
+use Rattle.world_truth.specs.inside.Tables.{bits_in}
 use Rattle.world_truth.proofs.Grouping.{AreGrouped}
 use Rattle.world_truth.proofs.betweenness.put_behind.Given as goal
 

@@ -1,5 +1,5 @@
 use Rattle.std.proofs.Common.{◌∙◌}
-use Rattle.world_truth.specs.Bound.{standing}
+use Rattle.world_truth.specs.inside.Bound.{standing}
 use Rattle.world_truth.proofs.NoFunctions.{function_at}
 use Rattle.world_truth.proofs.Terms.{is_variable, is_name}
 use Rattle.world_truth.proofs.bound.referent_of.Goals as goal

@@ -1,6 +1,6 @@
 use Rattle.std.specs.Prelude.{◌≡◌, ◌<◌, ◌/◌, ℕ}
 use Rattle.worlds.specs.Assignments.{variable_at}
-use Rattle.world_truth.specs.Bound.{standing}
+use Rattle.world_truth.specs.inside.Bound.{standing}
 use Rattle.world_truth.proofs.bound.referent_of_variable.Given as goal
 
 abbrev pub invariant-loop-outer : goal.invariant-loop-outer

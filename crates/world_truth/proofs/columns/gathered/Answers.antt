@@ -1,7 +1,7 @@
 use Rattle.std.proofs.Common.{ℕ, ◌+◌, ◌*◌, arith}
 use Rattle.std.specs.List.{range_with_len}
 use Rattle.bit_sets.specs.BitSets.{has}
-use Rattle.world_truth.specs.Tables.{joined}
+use Rattle.world_truth.specs.inside.Tables.{joined}
 use Rattle.worlds.proofs.Marking.{none_marked, marked_more, marked_extends}
 use Rattle.world_truth.proofs.columns.gathered.Goals as goal
 

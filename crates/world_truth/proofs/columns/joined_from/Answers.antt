@@ -1,6 +1,6 @@
 use Rattle.std.proofs.Common.{ℕ, ◌+◌, ap₂, sym, ◌∙◌}
 use Rattle.bit_sets.specs.BitSets.{has}
-use Rattle.world_truth.specs.Tables.{join_two}
+use Rattle.world_truth.specs.inside.Tables.{join_two}
 use Rattle.world_truth.proofs.Joining.{joined_none, joined_counted}
 use Rattle.world_truth.proofs.columns.joined_from.Goals as goal
 

@@ -1,7 +1,7 @@
 use Rattle.std.proofs.Common.{ℕ, ap, sym, arith, ◌∙◌, div-one, mod-eq_of_lt, inl, inr}
 use Rattle.std.specs.Prelude.{◌%◌}
 use Rattle.bit_sets.specs.BitSets.{has}
-use Rattle.world_truth.specs.Digits.{digit_of}
+use Rattle.world_truth.specs.inside.Digits.{digit_of}
 use Rattle.world_truth.proofs.Spreading.{no_digit, no_place}
 use Rattle.world_truth.proofs.columns.spread.Goals as goal
 

@@ -1,8 +1,8 @@
 use Rattle.std.proofs.Common.{ℕ, ◌+◌, length, ap, ◌∙◌}
 use Rattle.std.specs.Prelude.{◌||◌}
 use Rattle.bit_sets.specs.BitSets.{has}
-use Rattle.world_truth.specs.Digits.{digit_of}
-use Rattle.world_truth.specs.Relations.{relates}
+use Rattle.world_truth.specs.inside.Digits.{digit_of}
+use Rattle.world_truth.specs.inside.Relations.{relates}
 use Rattle.world_truth.proofs.Pairing.{spread_extends}
 use Rattle.world_truth.proofs.Spreading.{one_place_more}
 use Rattle.world_truth.proofs.columns.spread_pairs.Goals as goal

@@ -1,7 +1,7 @@
 use Rattle.std.specs.Prelude.{◌+◌, ◌&&◌, nat_lt, length}
 use Rattle.worlds.specs.inside.Extensions.{IsExtension}
-use Rattle.world_truth.specs.Digits.{digit_of}
-use Rattle.world_truth.specs.Relations.{relates}
+use Rattle.world_truth.specs.inside.Digits.{digit_of}
+use Rattle.world_truth.specs.inside.Relations.{relates}
 use Rattle.world_truth.proofs.columns.spread_pairs.Given as goal
 
 abbrev pub invariant-loop-place : goal.invariant-loop-place

@@ -1,7 +1,7 @@
 use Rattle.std.proofs.Common.{ℕ, take, ap, arith, refl, take_all}
 use Rattle.worlds.specs.Assignments.{put}
-use Rattle.world_truth.specs.Bound.{standing}
-use Rattle.world_truth.specs.Tables.{joined}
+use Rattle.world_truth.specs.inside.Bound.{standing}
+use Rattle.world_truth.specs.inside.Tables.{joined}
 use Rattle.worlds.specs.Truth.{val}
 use Rattle.worlds.specs.Worlds.{numbers}
 use Rattle.world_truth.proofs.Extending.{same_extensions, none_joined, one_extends, and_extensions, or_extensions, if_extensions, iff_extensions, all_extensions, ex_extensions, joined_extensions, part_joined, turn_joined, groups_joined, columns_joined}

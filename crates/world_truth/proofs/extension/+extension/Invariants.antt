@@ -1,7 +1,7 @@
 use Rattle.std.proofs.Common.{take}
 use Rattle.worlds.specs.Assignments.{put}
-use Rattle.world_truth.specs.Bound.{standing}
-use Rattle.world_truth.specs.Tables.{AreExtensions, joined}
+use Rattle.world_truth.specs.inside.Bound.{standing}
+use Rattle.world_truth.specs.inside.Tables.{AreExtensions, joined}
 use Rattle.worlds.specs.Truth.{val}
 use Rattle.worlds.specs.Worlds.{numbers}
 use Rattle.world_truth.proofs.extension.+extension.Given as goal

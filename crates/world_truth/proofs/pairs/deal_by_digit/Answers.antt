@@ -2,9 +2,9 @@ use Rattle.std.proofs.Common.{◌≡◌, ℕ, ◌+◌, ◌-◌, ◌<◌, length,
 use Rattle.std.specs.Prelude.{◌/◌}
 use Rattle.std.proofs.lemmas.Nat.{mod_below}
 use Rattle.worlds.specs.inside.Extensions.{IsExtension}
-use Rattle.world_truth.specs.Digits.{digit_of}
-use Rattle.world_truth.specs.Relations.{relates}
-use Rattle.world_truth.specs.Tables.{bits_in}
+use Rattle.world_truth.specs.inside.Digits.{digit_of}
+use Rattle.world_truth.specs.inside.Relations.{relates}
+use Rattle.world_truth.specs.inside.Tables.{bits_in}
 use Rattle.world_truth.proofs.Dealing.{none_dealt, more_dealt, digit_before}
 use Rattle.world_truth.proofs.Numerals.{last_of_few}
 use Rattle.world_truth.proofs.pairs.deal_by_digit.Goals as goal

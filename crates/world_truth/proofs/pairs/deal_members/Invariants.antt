@@ -1,6 +1,6 @@
 use Rattle.std.proofs.Common.{◌≡◌, ◌<◌, ℕ, length}
 use Rattle.bit_sets.specs.BitSets.{has}
-use Rattle.world_truth.specs.Digits.{digit_of}
+use Rattle.world_truth.specs.inside.Digits.{digit_of}
 use Rattle.world_truth.proofs.Filling.{AreFilled}
 use Rattle.world_truth.proofs.pairs.deal_members.Given as goal
 

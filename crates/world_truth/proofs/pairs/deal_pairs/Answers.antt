@@ -3,9 +3,9 @@ use Rattle.std.specs.Prelude.{◌/◌}
 use Rattle.std.proofs.lemmas.Nat.{mod_below}
 use Rattle.bit_sets.specs.BitSets.{has}
 use Rattle.worlds.specs.inside.Extensions.{IsExtension}
-use Rattle.world_truth.specs.Digits.{digit_of}
-use Rattle.world_truth.specs.Relations.{relates}
-use Rattle.world_truth.specs.Tables.{bits_in}
+use Rattle.world_truth.specs.inside.Digits.{digit_of}
+use Rattle.world_truth.specs.inside.Relations.{relates}
+use Rattle.world_truth.specs.inside.Tables.{bits_in}
 use Rattle.world_truth.proofs.Dealing.{none_dealt, more_dealt, digit_before}
 use Rattle.world_truth.proofs.Pairing.{at_digit}
 use Rattle.world_truth.proofs.pairs.deal_pairs.Goals as goal

@@ -3,8 +3,8 @@ use Rattle.std.specs.Prelude.{◌+◌}
 use Rattle.world_truth.specs.declared.atomic.Atomic.TheVariants.{Two}
 use Rattle.world_truth.specs.declared.digits.Referent.TheVariants as ref
 use Rattle.worlds.specs.inside.Extensions.{IsExtension}
-use Rattle.world_truth.specs.Referents.{value_by}
-use Rattle.world_truth.specs.Relations.{relates}
+use Rattle.world_truth.specs.inside.Referents.{value_by}
+use Rattle.world_truth.specs.inside.Relations.{relates}
 use Rattle.world_truth.proofs.Dealing.{AreDealt}
 use Rattle.world_truth.proofs.pairs.deal_pairs.Given as goal
 

@@ -1,7 +1,7 @@
 use Rattle.std.proofs.Common.{◌≡◌, ◌<◌, ℕ, ap, ◌∙◌, ◌+◌, length, arith, subst, sym}
 use Rattle.worlds.specs.inside.Extensions.{IsExtension}
-use Rattle.world_truth.specs.Digits.{digit_of}
-use Rattle.world_truth.specs.Relations.{relates}
+use Rattle.world_truth.specs.inside.Digits.{digit_of}
+use Rattle.world_truth.specs.inside.Relations.{relates}
 use Rattle.world_truth.proofs.Grouping.{none_grouped, more_grouped}
 use Rattle.world_truth.proofs.Numerals.{last_of_few}
 use Rattle.world_truth.proofs.Pairing.{spread_extends}

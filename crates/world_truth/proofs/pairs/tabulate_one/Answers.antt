@@ -1,6 +1,6 @@
 use Rattle.std.proofs.Common.{[], ◌∷◌, ◌+◌, ℕ, ap, sym, refl, ◌∙◌}
 use Rattle.worlds.specs.Predicates.{says, says_of_one}
-use Rattle.world_truth.specs.Referents.{block_by}
+use Rattle.world_truth.specs.inside.Referents.{block_by}
 use Rattle.worlds.specs.Worlds.{block_at}
 use Rattle.world_truth.proofs.Pairing.{at_digit}
 use Rattle.worlds.proofs.Scaling.{set_extends}

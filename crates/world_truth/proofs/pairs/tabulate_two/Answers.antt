@@ -1,6 +1,6 @@
 use Rattle.std.proofs.Common.{ℕ, ◌+◌, length, ap₂, sym, ◌∙◌}
-use Rattle.world_truth.specs.Digits.{number_by}
-use Rattle.world_truth.specs.Relations.{relates}
+use Rattle.world_truth.specs.inside.Digits.{number_by}
+use Rattle.world_truth.specs.inside.Relations.{relates}
 use Rattle.world_truth.proofs.Pairing.{at_digit}
 use Rattle.world_truth.proofs.pairs.tabulate_two.Goals as goal
 

@@ -3,8 +3,8 @@ use Rattle.std.specs.Prelude.{Some}
 use Rattle.worlds.specs.declared.predicate.Predicate.TheVariants.{Between}
 use Rattle.worlds.specs.inside.Extensions.{IsExtension}
 use Rattle.worlds.specs.Predicates.{says}
-use Rattle.world_truth.specs.Relations.{relates}
-use Rattle.world_truth.specs.Tables.{bits_in}
+use Rattle.world_truth.specs.inside.Relations.{relates}
+use Rattle.world_truth.specs.inside.Tables.{bits_in}
 use Rattle.worlds.specs.Worlds.{block_at}
 use Rattle.worlds.proofs.Scaling.{set_extends}
 use Rattle.world_truth.proofs.relation.relate.Goals as goal

@@ -1,7 +1,7 @@
 use Rattle.std.specs.Prelude.{◌≡◌, ◌+◌, length}
 use Rattle.worlds.specs.inside.Extensions.{IsExtension}
-use Rattle.world_truth.specs.Relations.{relates}
-use Rattle.world_truth.specs.Tables.{bits_in}
+use Rattle.world_truth.specs.inside.Relations.{relates}
+use Rattle.world_truth.specs.inside.Tables.{bits_in}
 use Rattle.world_truth.proofs.Grouping.{AreGrouped}
 use Rattle.world_truth.proofs.relation.relate_each.Given as goal
 

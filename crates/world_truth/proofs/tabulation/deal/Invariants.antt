@@ -1,6 +1,6 @@
 use Rattle.std.proofs.Common.{◌≡◌, length}
-use Rattle.world_truth.specs.Digits.{case_of}
-use Rattle.world_truth.specs.Tables.{bits_in}
+use Rattle.world_truth.specs.inside.Digits.{case_of}
+use Rattle.world_truth.specs.inside.Tables.{bits_in}
 use Rattle.world_truth.proofs.Filling.{AreFilled}
 use Rattle.world_truth.proofs.tabulation.deal.Given as goal
 

@@ -1,5 +1,5 @@
 use Rattle.std.proofs.Common.{sym}
-use Rattle.world_text.specs.Squares.{as_said}
+use Rattle.world_text.specs.inside.Squares.{as_said}
 use Rattle.world_text.proofs.Putting.{put_line, both_ok}
 use Rattle.world_text.proofs.squares.Squares.put.Goals as goal
 

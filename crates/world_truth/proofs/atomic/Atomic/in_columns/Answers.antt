@@ -3,7 +3,7 @@ use Rattle.world_truth.specs.declared.atomic.Atomic.TheVariants.{One}
 use Rattle.world_truth.specs.declared.digits.Referent.TheVariants.{ByColumn}
 use Rattle.worlds.specs.inside.Extensions.{IsExtension}
 use Rattle.worlds.specs.Predicates.{says, says_of_one}
-use Rattle.world_truth.specs.Referents.{value_by}
+use Rattle.world_truth.specs.inside.Referents.{value_by}
 use Rattle.worlds.specs.Worlds.{block_at}
 use Rattle.world_truth.proofs.Pairing.{spread_extends}
 use Rattle.worlds.proofs.Scaling.{set_extends}

@@ -1,5 +1,5 @@
 use Rattle.std.proofs.Common.{arith}
-use Rattle.world_truth.specs.Referents.{value_by}
+use Rattle.world_truth.specs.inside.Referents.{value_by}
 use Rattle.worlds.proofs.Marking.{none_marked, marked_more, marked_extends}
 use Rattle.world_truth.proofs.atomic.Atomic.in_each_column.Goals as goal
 

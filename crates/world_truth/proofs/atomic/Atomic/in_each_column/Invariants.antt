@@ -1,4 +1,4 @@
-use Rattle.world_truth.specs.Referents.{value_by}
+use Rattle.world_truth.specs.inside.Referents.{value_by}
 use Rattle.worlds.proofs.Marking.{IsMarked}
 use Rattle.world_truth.proofs.atomic.Atomic.in_each_column.Given as goal
 

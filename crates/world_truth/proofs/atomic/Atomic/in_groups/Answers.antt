@@ -3,7 +3,7 @@ use Rattle.std.proofs.lemmas.Option.{IfSome_then}
 use Rattle.world_truth.specs.declared.atomic.Atomic.TheVariants.{Three}
 use Rattle.world_truth.specs.declared.digits.Referent.TheVariants.{ByRow, ByColumn}
 use Rattle.worlds.specs.declared.predicate.Predicate.TheVariants.{Between}
-use Rattle.world_truth.specs.Referents.{block_by, value_by}
+use Rattle.world_truth.specs.inside.Referents.{block_by, value_by}
 use Rattle.world_truth.proofs.Swapping.{says_swapped}
 use Rattle.world_truth.proofs.atomic.Atomic.in_groups.Goals as goal
 

@@ -2,7 +2,7 @@ use Rattle.std.proofs.Common.{◌≡◌, ap, sym, ◌∙◌, rules}
 use Rattle.world_truth.specs.declared.atomic.Atomic.TheVariants.{Three}
 use Rattle.world_truth.specs.declared.digits.Referent.TheVariants.{One}
 use Rattle.worlds.specs.declared.predicate.Predicate.TheVariants.{Between}
-use Rattle.world_truth.specs.Referents.{block_by, value_by}
+use Rattle.world_truth.specs.inside.Referents.{block_by, value_by}
 use Rattle.world_truth.proofs.Swapping.{says_swapped}
 use Rattle.world_truth.proofs.atomic.Atomic.reduced.Goals as goal
 

@@ -1,5 +1,5 @@
 use Rattle.worlds.specs.inside.Extensions.{IsExtension}
-use Rattle.world_truth.specs.Referents.{value_by}
+use Rattle.world_truth.specs.inside.Referents.{value_by}
 use Rattle.world_truth.proofs.Filling.{AreFilled}
 use Rattle.world_truth.proofs.atomic.Atomic.tabulate_each.Given as goal
 

@@ -1,9 +1,9 @@
 use Rattle.std.proofs.Common.{◌≡◌, ℕ, ◌+◌, ◌*◌, ◌<◌, length, ap, sym, ◌∙◌, subst, arith}
 use Rattle.worlds.specs.inside.Extensions.{IsExtension}
-use Rattle.world_truth.specs.Digits.{digit_of}
-use Rattle.world_truth.specs.Referents.{value_by, ArePairsInColumns}
-use Rattle.world_truth.specs.Relations.{about, relates}
-use Rattle.world_truth.specs.Tables.{bits_in}
+use Rattle.world_truth.specs.inside.Digits.{digit_of}
+use Rattle.world_truth.specs.inside.Referents.{value_by, ArePairsInColumns}
+use Rattle.world_truth.specs.inside.Relations.{about, relates}
+use Rattle.world_truth.specs.inside.Tables.{bits_in}
 use Rattle.world_truth.proofs.Grouping.{one_group_more}
 use Rattle.world_truth.proofs.atomic.Atomic.tabulate_groups.Goals as goal
 

@@ -1,7 +1,7 @@
 use Rattle.std.specs.Prelude.{◌<◌, ◌*◌, ℕ, length}
 use Rattle.worlds.specs.inside.Extensions.{IsExtension}
-use Rattle.world_truth.specs.Referents.{value_by}
-use Rattle.world_truth.specs.Tables.{bits_in}
+use Rattle.world_truth.specs.inside.Referents.{value_by}
+use Rattle.world_truth.specs.inside.Tables.{bits_in}
 use Rattle.world_truth.proofs.atomic.Atomic.tabulate_groups.Given as goal
 
 abbrev pub invariant-loop-group : goal.invariant-loop-group

@@ -1,5 +1,5 @@
 use Rattle.std.proofs.Common.{ℕ, ◌+◌, ap, sym, ◌∙◌}
-use Rattle.world_truth.specs.Digits.{digit_of, number_by}
+use Rattle.world_truth.specs.inside.Digits.{digit_of, number_by}
 use Rattle.world_truth.proofs.Numerals.{low_of_case, high_of_case}
 use Rattle.world_truth.proofs.digits.Digits.by_case.Goals as goal
 

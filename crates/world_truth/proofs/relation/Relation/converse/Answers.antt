@@ -1,6 +1,6 @@
 use Rattle.std.proofs.Common.{ℕ, ap, sym, ◌∙◌}
 use Rattle.worlds.specs.declared.predicate.Predicate.TheVariants.{Between}
-use Rattle.world_truth.specs.Relations.{relates}
+use Rattle.world_truth.specs.inside.Relations.{relates}
 use Rattle.worlds.specs.Worlds.{block_at}
 use Rattle.world_truth.proofs.Swapping.{says_swapped}
 use Rattle.world_truth.proofs.relation.Relation.converse.Goals as goal

@@ -1,5 +1,5 @@
 use Rattle.std.proofs.Common.{ℕ, subst, arith, ◌∙◌}
-use Rattle.world_truth.specs.Tables.{AreGathered}
+use Rattle.world_truth.specs.inside.Tables.{AreGathered}
 use Rattle.world_truth.proofs.Filling.{none_filled, more_filled}
 use Rattle.world_truth.proofs.table.Table.gather.Goals as goal
 

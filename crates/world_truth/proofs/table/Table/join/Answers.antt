@@ -1,6 +1,6 @@
 use Rattle.std.proofs.Common.{ℕ, ap₂, ◌∙◌, arith}
 use Rattle.bit_sets.specs.BitSets.{has}
-use Rattle.world_truth.specs.Tables.{connect}
+use Rattle.world_truth.specs.inside.Tables.{connect}
 use Rattle.world_truth.proofs.Filling.{none_filled, more_filled}
 use Rattle.world_truth.proofs.table.Table.join.Goals as goal
 

@@ -1,4 +1,4 @@
-use Rattle.world_truth.specs.Tables.{bits_in, IsJoin}
+use Rattle.world_truth.specs.inside.Tables.{bits_in, IsJoin}
 use Rattle.world_truth.proofs.Filling.{AreFilled}
 use Rattle.world_truth.proofs.table.Table.join.Given as goal
 

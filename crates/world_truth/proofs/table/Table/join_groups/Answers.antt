@@ -1,6 +1,6 @@
 use Rattle.std.proofs.Common.{ℕ, ◌+◌, ◌*◌, ap, ◌∙◌, arith}
 use Rattle.bit_sets.specs.BitSets.{has}
-use Rattle.world_truth.specs.Tables.{bits_in}
+use Rattle.world_truth.specs.inside.Tables.{bits_in}
 use Rattle.world_truth.proofs.Filling.{none_filled, more_filled, not_before}
 use Rattle.world_truth.proofs.Joining.{joined_shifted}
 use Rattle.world_truth.proofs.table.Table.join_groups.Goals as goal

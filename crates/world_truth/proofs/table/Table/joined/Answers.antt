@@ -1,6 +1,6 @@
 use Rattle.std.proofs.Common.{ℕ, ◌+◌, sym, ap, ap₂, ◌∙◌}
 use Rattle.bit_sets.specs.BitSets.{has}
-use Rattle.world_truth.specs.Tables.{bits_in, join_two}
+use Rattle.world_truth.specs.inside.Tables.{bits_in, join_two}
 use Rattle.world_truth.proofs.Joining.{joined_none, joined_counted}
 use Rattle.world_truth.proofs.table.Table.joined.Goals as goal
 

@@ -1,4 +1,4 @@
-use Rattle.world_truth.specs.Tables.{IsGroup}
+use Rattle.world_truth.specs.inside.Tables.{IsGroup}
 use Rattle.world_truth.proofs.table.Table.joined.Given as goal
 
 abbrev pub invariant-loop-before : goal.invariant-loop-before

@@ -8,10 +8,10 @@ use Rattle.worlds.specs.declared.predicate.Predicate.TheVariants.{Between}
 use Rattle.world_truth.specs.declared.relation.Relation.{Relation}
 use Rattle.world_truth.specs.declared.table.Table.{Table}
 use Rattle.worlds.specs.inside.Extensions.{IsExtension}
-use Rattle.world_truth.specs.Digits.{digit_of, number_by}
+use Rattle.world_truth.specs.inside.Digits.{digit_of, number_by}
 use Rattle.worlds.specs.Predicates.{says}
-use Rattle.world_truth.specs.Relations.{relates}
-use Rattle.world_truth.specs.Tables.{bits_in}
+use Rattle.world_truth.specs.inside.Relations.{relates}
+use Rattle.world_truth.specs.inside.Tables.{bits_in}
 use Rattle.worlds.specs.Worlds.{block_at}
 
 -- The block of a term.
