@@ -4,11 +4,11 @@ ghost use Rattle.worlds.specs.Predicates as spec;
 ghost use Rattle.worlds.specs.Scales.{measure_of, IsSetOf};
 ghost use Rattle.worlds.specs.Worlds.{block_at};
 
-use bit_sets::BitSet;
 use crate::block::Block;
 use crate::board::World;
 use crate::predicate::Predicate;
 use crate::scales::{Measure, set_at};
+use bit_sets::BitSet;
 
 impl World {
     /// The blocks of which the predicate holds, if it is one that speaks of one block.
