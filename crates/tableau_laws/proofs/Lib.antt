@@ -1,0 +1,15 @@
+pub mod Choosing
+pub mod Lists
+pub mod Finding
+pub mod Putting
+pub mod TermsOn
+pub mod Unique
+pub mod Answering
+pub mod Fresh
+pub mod Numbered
+pub mod Refuting
+pub mod Sound
+pub mod Standing
+pub mod ClassSound
+pub mod Refutation
+pub mod Published

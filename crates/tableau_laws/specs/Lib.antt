@@ -1,0 +1,11 @@
+pub mod Terms
+pub mod Branch
+pub mod Choice
+pub mod Classes
+pub mod Clauses
+pub mod Choices
+pub mod Tableau
+pub mod Answer
+pub mod Refuted
+pub mod Laws
+pub mod ClassLaws
