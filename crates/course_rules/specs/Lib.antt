@@ -1,0 +1,7 @@
+pub mod Digits
+pub mod RuleForm
+pub mod ZoneForm
+pub mod CivilText
+pub mod Due
+pub mod Late
+pub mod inside
