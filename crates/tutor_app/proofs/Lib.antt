@@ -6,3 +6,4 @@ pub mod Evaluating
 pub mod TellingShelves
 pub mod Tabulating
 pub mod Replaying
+pub mod Asking

@@ -1,32 +1,29 @@
-use Rattle.std.proofs.Common.{◌≡◌, subst}
-use Rattle.tutor_app.specs.Check.{check_answers}
-use Rattle.tutor_app.specs.Play.{play_answers}
-use Rattle.tutor_app.specs.Table.{table_answers}
-use Rattle.tutor_app.specs.ShelvedRun.{ShelvedRuns}
-use Rattle.tutor_app.specs.World.{IsWorldText, text_answers}
-use Rattle.tutor_app.proofs.Telling.{told_runs}
-use Rattle.tutor_app.proofs.TellingShelves.{told_shelved, one_name}
+use Rattle.std.proofs.Common.{◌≡◌, sym, subst}
+use Rattle.tutor_app.specs.Running.{RunsAs}
+use Rattle.tutor_app.specs.Words.{Request, to_check, nothing, request_of, NamesNoText}
+use Rattle.tutor_app.proofs.Asking.{asked_once, runs_on}
+use Rattle.tutor_app.proofs.CheckReplies.{reads_tree}
 use Rattle.tutor_app.proofs.tutor.tutor.Goals as goal
 
-pub returns-in-Check-clause-told : goal.returns-in-Check-clause-told
-returns-in-Check-clause-told g c = λ _ bytes e.
-    told_runs check_answers bytes (g.S.Source.left c.args.input.now) (g.S.Source.left c.run_check-code.new.input) (g.W.Sink.taken c.args.output.now) (g.W.Sink.taken c.run_check-code.new.output) c.run_check-code.result e c.run_check-code.ensures.runs
+pub returns-clause-runs : goal.returns-clause-runs
+returns-clause-runs g c = λ asked h.
+    subst (λ (r : Request). RunsAs r (g.F.Shelf.texts c.args.shelf.now) (c.run-code.new.input ≡ c.args.input.now) (g.S.Source.left c.args.input.now) (g.S.Source.left c.run-code.new.input)
+    (g.W.Sink.taken c.args.output.now) (g.W.Sink.taken c.run-code.new.output) c.run-code.result)
+    (asked_once c.args.words.now (request_of c.command_of-command.result) asked c.command_of-command.ensures.asked h) c.run-code.ensures.runs
 
-pub returns-in-World-clause-world : goal.returns-in-World-clause-world
-returns-in-World-clause-world g c = λ name e _.
-    subst (λ n. ShelvedRuns IsWorldText text_answers (g.F.Shelf.texts c.args.shelf.now) n (c.run_world-code.new.input ≡ c.args.input.now) (g.S.Source.left c.args.input.now) (g.S.Source.left c.run_world-code.new.input)
-    (g.W.Sink.taken c.args.output.now) (g.W.Sink.taken c.run_world-code.new.output) c.run_world-code.result)
-    (one_name c.args.words.now c.in-World.name.now name c.in-World.ensures.asked.0 e) c.run_world-code.ensures.runs
+pub returns-clause-told : goal.returns-clause-told
+returns-clause-told g c = λ asked h bytes e.
+    runs_on asked (g.F.Shelf.texts c.args.shelf.now) (c.run-code.new.input ≡ c.args.input.now) bytes (g.S.Source.left c.args.input.now) (g.S.Source.left c.run-code.new.input)
+    (g.W.Sink.taken c.args.output.now) (g.W.Sink.taken c.run-code.new.output) c.run-code.result e (returns-clause-runs g c asked h)
 
-pub returns-in-World-clause-world_told : goal.returns-in-World-clause-world_told
-returns-in-World-clause-world_told g c = λ name e p texts h bytes k.
-    told_shelved IsWorldText text_answers (g.F.Shelf.texts c.args.shelf.now) texts name (c.run_world-code.new.input ≡ c.args.input.now) bytes (g.S.Source.left c.args.input.now) (g.S.Source.left c.run_world-code.new.input)
-    (g.W.Sink.taken c.args.output.now) (g.W.Sink.taken c.run_world-code.new.output) c.run_world-code.result h k (returns-in-World-clause-world g c name e p)
+pub returns-clause-proved : goal.returns-clause-proved
+returns-clause-proved g c = λ e.
+    reads_tree (g.S.Source.left c.args.input.now) (g.S.Source.left c.run-code.new.input) (g.W.Sink.taken c.args.output.now) (g.W.Sink.taken c.run-code.new.output) c.run-code.result (returns-clause-runs g c to_check e)
 
-pub returns-in-Table-clause-table_told : goal.returns-in-Table-clause-table_told
-returns-in-Table-clause-table_told g c = λ _ bytes e.
-    told_runs table_answers bytes (g.S.Source.left c.args.input.now) (g.S.Source.left c.run_tool-code.new.input) (g.W.Sink.taken c.args.output.now) (g.W.Sink.taken c.run_tool-code.new.output) c.run_tool-code.result e c.run_tool-code.ensures.runs
+pub returns-clause-untouched : goal.returns-clause-untouched
+returns-clause-untouched g c = λ none.
+    c.run-code.ensures.untouched (asked_once c.args.words.now (request_of c.command_of-command.result) nothing c.command_of-command.ensures.asked none)
 
-pub returns-in-Play-clause-play_told : goal.returns-in-Play-clause-play_told
-returns-in-Play-clause-play_told g c = λ _ bytes e.
-    told_runs play_answers bytes (g.S.Source.left c.args.input.now) (g.S.Source.left c.run_tool-code-in-Play.new.input) (g.W.Sink.taken c.args.output.now) (g.W.Sink.taken c.run_tool-code-in-Play.new.output) c.run_tool-code-in-Play.result e c.run_tool-code-in-Play.ensures.runs
+pub returns-clause-shelf_idle : goal.returns-clause-shelf_idle
+returns-clause-shelf_idle g c = λ asked h idle.
+    c.run-code.ensures.shelf_idle (subst NamesNoText (sym (asked_once c.args.words.now (request_of c.command_of-command.result) asked c.command_of-command.ensures.asked h)) idle)
