@@ -1,7 +1,7 @@
 use crate::no_answer::NoAnswer;
 use crate::state::State;
 use crate::words::{said, shown};
-use crate::{games, orders, plays, truths, worlds};
+use crate::{games, orders, plays, readings, truths};
 use block_world::{World, block_count};
 use cases::{call_of, quoted_line, stands_for_itself, texts_of};
 use hintikka_game::replay_laws;
@@ -36,11 +36,11 @@ fn answer(
     texts: &[String],
 ) -> Result<String, NoAnswer> {
     match (call, texts) {
-        ("read_world", []) => worlds::read_quoted(alloc, state),
-        ("read_world", [text]) => worlds::read_text(alloc, state, text),
+        ("read_world", []) => readings::read_quoted(alloc, state),
+        ("read_world", [text]) => readings::read_text(alloc, state, text),
         ("read_play", []) => plays::read(alloc, state.quoted.as_str()),
         ("read_play", [text]) => plays::read(alloc, text),
-        ("bears", [names, letter]) => worlds::bears(alloc, names, letter),
+        ("bears", [names, letter]) => readings::bears(alloc, names, letter),
         ("laws", []) => laws(alloc),
         _ => match &state.world {
             Some(world) => in_world(alloc, world, state.quoted.as_str(), call, texts),
@@ -59,7 +59,7 @@ fn in_world(
 ) -> Result<String, NoAnswer> {
     match (call, texts) {
         ("block_count", []) => shown(alloc, &block_count(world)),
-        ("print_world", []) => worlds::printed(alloc, world),
+        ("print_world", []) => readings::printed(alloc, world),
         ("work", [sentence]) => truths::units(alloc, world, sentence),
         ("truth", [sentence]) => truths::value(alloc, world, sentence),
         ("truth_of_open", [variables, said]) => {

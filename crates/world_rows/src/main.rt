@@ -7,10 +7,10 @@ mod games;
 mod no_answer;
 mod orders;
 mod plays;
+mod readings;
 mod state;
 mod truths;
 mod words;
-mod worlds;
 
 use state::State;
 use std::io;
