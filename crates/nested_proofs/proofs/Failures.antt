@@ -2,14 +2,16 @@
 use Rattle.std.proofs.Common.{List, refl, Option, Some, None, IsTrue, Bool, true, false}
 use Rattle.fol_core.specs.declared.sent.Sent.{Sent}
 use Rattle.deriv_laws.specs.declared.rule.Rule.{Rule}
-use Rattle.deriv_laws.specs.declared.rule.Rule.TheVariants as r
 use Rattle.deriv_laws.specs.declared.line.StepFault.{StepFault}
+use Rattle.nested_proofs.specs.declared.kind.RuleKind.{RuleKind}
+use Rattle.nested_proofs.specs.declared.kind.RuleKind.TheVariants as kind
+use Rattle.nested_proofs.specs.Kinds.{kind_of}
 use Rattle.nested_proofs.specs.Scope.{Subproof, cited_sentences, cited_subproofs}
 use Rattle.nested_proofs.specs.Placed.{Placed}
 use Rattle.nested_proofs.specs.Rules.{Follows, StaysArbitrary}
 use Rattle.nested_proofs.specs.CiteTests.{cites_fault}
-use Rattle.nested_proofs.specs.Faults.{Answers, IsStepFailure, IsConsequenceFailure, IsFailureBy, says_yes, NoFailureJustifies}
-use Rattle.nested_proofs.specs.Justified.{IsJustifiedBy}
+use Rattle.nested_proofs.specs.Faults.{Answers, IsStepFailure, IsConsequenceFailure, IsOwnFailure, IsConsequenceStepFailure, IsFailureOfKind, says_yes, NoFailureJustifies}
+use Rattle.nested_proofs.specs.Justified.{IsOwnStep, IsJustifiedAs}
 
 step_right : (A : Type 0) (b : Bool) (e : Option StepFault) (F V : Type 0) (bs : List Subproof) → IsStepFailure {A = A} b e F V bs None → F × V
 step_right A false e F V bs h = cc
@@ -21,38 +23,28 @@ answer_right false e R h = cc
 answer_right true None R h = (refl, h)
 answer_right true (Some f) R h = cc
 
-by_answer : {A : Type 0} (allowed : Rule → Bool) (answers : Answers A) (premises : List Sent) (x : Placed) (rule : Rule) (s : Sent) →
-    IsConsequenceFailure (allowed rule) (cites_fault rule x.around.scope x.line.cites) (answers rule (cited_sentences x.around.scope x.line.cites) s) None →
+by_answer : {A : Type 0} (allowed : Rule → Bool) (answers : Answers A) (x : Placed) (rule : Rule) (s : Sent) → IsConsequenceStepFailure allowed answers x rule s None →
     says_yes allowed answers rule (cited_sentences x.around.scope x.line.cites) s
-by_answer allowed answers premises x rule s h = answer_right (allowed rule) (cites_fault rule x.around.scope x.line.cites) (answers rule (cited_sentences x.around.scope x.line.cites) s) h
+by_answer allowed answers x rule s h = answer_right (allowed rule) (cites_fault rule x.around.scope x.line.cites) (answers rule (cited_sentences x.around.scope x.line.cites) s) h
 
-by_tests : {A : Type 0} (allowed : Rule → Bool) (answers : Answers A) (x : Placed) (rule : Rule) (s : Sent) →
-    IsStepFailure {A = A} (allowed rule) (cites_fault rule x.around.scope x.line.cites)
-    (Follows rule (cited_sentences x.around.scope x.line.cites) (cited_subproofs x.around.scope x.line.cites) s)
-    (StaysArbitrary rule (cited_sentences x.around.scope x.line.cites) (cited_subproofs x.around.scope x.line.cites) s)
-    (cited_subproofs x.around.scope x.line.cites) None →
-    Follows rule (cited_sentences x.around.scope x.line.cites) (cited_subproofs x.around.scope x.line.cites) s
-    × StaysArbitrary rule (cited_sentences x.around.scope x.line.cites) (cited_subproofs x.around.scope x.line.cites) s
-by_tests {A} allowed answers x rule s h =
+by_tests : (A : Type 0) (allowed : Rule → Bool) (x : Placed) (rule : Rule) (s : Sent) → IsOwnFailure {A = A} allowed x rule s None → IsOwnStep x.around x.line rule s
+by_tests A allowed x rule s h =
     step_right A (allowed rule) (cites_fault rule x.around.scope x.line.cites)
     (Follows rule (cited_sentences x.around.scope x.line.cites) (cited_subproofs x.around.scope x.line.cites) s)
     (StaysArbitrary rule (cited_sentences x.around.scope x.line.cites) (cited_subproofs x.around.scope x.line.cites) s)
     (cited_subproofs x.around.scope x.line.cites) h
 
-at_rule : {A : Type 0} (allowed : Rule → Bool) (answers : Answers A) (premises : List Sent) (x : Placed) (rule : Rule) (s : Option Sent) →
-    IsFailureBy allowed answers premises x rule s None → IsJustifiedBy (says_yes allowed answers) premises x.around x.line rule s
-at_rule allowed answers premises x r.Premise (Some s) h = h
-at_rule allowed answers premises x r.Premise None h = h
-at_rule allowed answers premises x r.Assume s h = h
-at_rule allowed answers premises x r.BoxOnly s h = h
-at_rule allowed answers premises x r.TautCon (Some s) h = by_answer allowed answers premises x r.TautCon s h
-at_rule allowed answers premises x r.FoCon (Some s) h = by_answer allowed answers premises x r.FoCon s h
-at_rule allowed answers premises x r.AnaCon (Some s) h = by_answer allowed answers premises x r.AnaCon s h
-at_rule allowed answers premises x r.TautCon None h = h
-at_rule allowed answers premises x r.FoCon None h = h
-at_rule allowed answers premises x r.AnaCon None h = h
-at_rule allowed answers premises x rule (Some s) h = by_tests allowed answers x rule s h
-at_rule allowed answers premises x rule None h = h
+of_kind : {A : Type 0} (allowed : Rule → Bool) (answers : Answers A) (premises : List Sent) (x : Placed) (of : RuleKind) (rule : Rule) (s : Option Sent) →
+    IsFailureOfKind allowed answers premises x of rule s None → IsJustifiedAs (says_yes allowed answers) premises x.around x.line of rule s
+of_kind allowed answers premises x kind.Premise rule (Some s) h = h
+of_kind allowed answers premises x kind.Premise rule None h = h
+of_kind allowed answers premises x kind.Opening rule s h = h
+of_kind {A} allowed answers premises x kind.Propositional rule (Some s) h = by_tests A allowed x rule s h
+of_kind allowed answers premises x kind.Propositional rule None h = h
+of_kind {A} allowed answers premises x kind.Quantified rule (Some s) h = by_tests A allowed x rule s h
+of_kind allowed answers premises x kind.Quantified rule None h = h
+of_kind allowed answers premises x kind.Consequence rule (Some s) h = by_answer allowed answers x rule s h
+of_kind allowed answers premises x kind.Consequence rule None h = h
 
 pub no_failure_justifies : {A : Type 0} (allowed : Rule → Bool) (answers : Answers A) → NoFailureJustifies allowed answers
-no_failure_justifies allowed answers premises x h = at_rule allowed answers premises x x.line.rule x.line.sentence h
+no_failure_justifies allowed answers premises x h = of_kind allowed answers premises x (kind_of x.line.rule) x.line.rule x.line.sentence h

@@ -21,3 +21,6 @@ pub mod AsRead
 pub mod AtCited
 pub mod Conclusions
 pub mod Silence
+pub mod CiteCounts
+pub mod ReadCites
+pub mod AtStep

@@ -4,15 +4,17 @@ use Rattle.std.specs.Prelude.{◌⊎◌}
 use Rattle.fol_core.specs.declared.sent.Sent.{Sent}
 use Rattle.fol_core.specs.Word.{Word}
 use Rattle.deriv_laws.specs.declared.rule.Rule.{Rule}
-use Rattle.deriv_laws.specs.declared.rule.Rule.TheVariants as r
 use Rattle.deriv_laws.specs.declared.line.StepFault.{StepFault}
 use Rattle.deriv_laws.specs.declared.line.StepFault.TheVariants as fault
+use Rattle.nested_proofs.specs.declared.kind.RuleKind.{RuleKind}
+use Rattle.nested_proofs.specs.declared.kind.RuleKind.TheVariants as kind
+use Rattle.nested_proofs.specs.Kinds.{kind_of}
 use Rattle.nested_proofs.specs.Scope.{Subproof, cited_sentences, cited_subproofs}
 use Rattle.nested_proofs.specs.Placed.{Around, Placed}
 use Rattle.nested_proofs.specs.Rules.{Follows, StaysArbitrary}
 use Rattle.nested_proofs.specs.Fresh.{HasFreshBox}
 use Rattle.nested_proofs.specs.CiteTests.{cites_fault}
-use Rattle.nested_proofs.specs.Faults.{Failure, NotAPremise, AsStep, NotAConsequence, Answers, IsPremiseFailure, IsBoxFailure, IsLastFailure, IsStepFailure, IsAnswer, IsConsequenceFailure, IsFailureBy, AreOne, OneFirstFailure}
+use Rattle.nested_proofs.specs.Faults.{Failure, NotAPremise, AsStep, NotAConsequence, Answers, IsPremiseFailure, IsBoxFailure, IsLastFailure, IsStepFailure, IsAnswer, IsConsequenceFailure, IsOwnFailure, IsConsequenceStepFailure, IsFailureOfKind, AreOne, OneFirstFailure}
 
 premise_cases : {A : Type 0} (P : Type 0) (o : Option (Failure A)) → IsPremiseFailure P o → ((o ≡ None) × P) ⊎ ((o ≡ Some NotAPremise) × (P → ⊥))
 premise_cases P None h = inl (refl, h)
@@ -100,31 +102,30 @@ consequence_one false e R o q one h k = h ∙ sym k
 consequence_one true (Some f) R o q one h k = h ∙ sym k
 consequence_one true None R o q one h k = answer_one R o q one (answer_cases R o h) (answer_cases R q k)
 
-by_answer : {A : Type 0} (allowed : Rule → Bool) (answers : Answers A) (x : Placed) (rule : Rule) (s : Sent) (o q : Option (Failure A)) → AreOne answers →
-    IsConsequenceFailure (allowed rule) (cites_fault rule x.around.scope x.line.cites) (answers rule (cited_sentences x.around.scope x.line.cites) s) o →
-    IsConsequenceFailure (allowed rule) (cites_fault rule x.around.scope x.line.cites) (answers rule (cited_sentences x.around.scope x.line.cites) s) q → o ≡ q
-by_answer allowed answers x rule s o q one h k =
-    consequence_one (allowed rule) (cites_fault rule x.around.scope x.line.cites) (answers rule (cited_sentences x.around.scope x.line.cites) s) o q
-    (one rule (cited_sentences x.around.scope x.line.cites) s) h k
-
-at_rule : {A : Type 0} (allowed : Rule → Bool) (answers : Answers A) (premises : List Sent) (x : Placed) (rule : Rule) (s : Option Sent) (o q : Option (Failure A)) → AreOne answers →
-    IsFailureBy allowed answers premises x rule s o → IsFailureBy allowed answers premises x rule s q → o ≡ q
-at_rule allowed answers premises x r.Premise (Some s) o q one h k = premise_one (Contains premises s) o q (premise_cases (Contains premises s) o h) (premise_cases (Contains premises s) q k)
-at_rule allowed answers premises x r.Premise None o q one h k = absurd h
-at_rule allowed answers premises x r.Assume s o q one h k = box_one premises x.around x.line.boxed o q (box_cases premises x.around x.line.boxed o h) (box_cases premises x.around x.line.boxed q k)
-at_rule allowed answers premises x r.BoxOnly s o q one h k = box_one premises x.around x.line.boxed o q (box_cases premises x.around x.line.boxed o h) (box_cases premises x.around x.line.boxed q k)
-at_rule allowed answers premises x r.TautCon (Some s) o q one h k = by_answer allowed answers x r.TautCon s o q one h k
-at_rule allowed answers premises x r.FoCon (Some s) o q one h k = by_answer allowed answers x r.FoCon s o q one h k
-at_rule allowed answers premises x r.AnaCon (Some s) o q one h k = by_answer allowed answers x r.AnaCon s o q one h k
-at_rule allowed answers premises x r.TautCon None o q one h k = absurd h
-at_rule allowed answers premises x r.FoCon None o q one h k = absurd h
-at_rule allowed answers premises x r.AnaCon None o q one h k = absurd h
-at_rule allowed answers premises x rule (Some s) o q one h k =
+own_one : {A : Type 0} (allowed : Rule → Bool) (x : Placed) (rule : Rule) (s : Sent) (o q : Option (Failure A)) → IsOwnFailure allowed x rule s o → IsOwnFailure allowed x rule s q → o ≡ q
+own_one allowed x rule s o q h k =
     step_one (allowed rule) (cites_fault rule x.around.scope x.line.cites)
     (Follows rule (cited_sentences x.around.scope x.line.cites) (cited_subproofs x.around.scope x.line.cites) s)
     (StaysArbitrary rule (cited_sentences x.around.scope x.line.cites) (cited_subproofs x.around.scope x.line.cites) s)
     (cited_subproofs x.around.scope x.line.cites) o q h k
-at_rule allowed answers premises x rule None o q one h k = absurd h
+
+by_answer : {A : Type 0} (allowed : Rule → Bool) (answers : Answers A) (x : Placed) (rule : Rule) (s : Sent) (o q : Option (Failure A)) → AreOne answers →
+    IsConsequenceStepFailure allowed answers x rule s o → IsConsequenceStepFailure allowed answers x rule s q → o ≡ q
+by_answer allowed answers x rule s o q one h k =
+    consequence_one (allowed rule) (cites_fault rule x.around.scope x.line.cites) (answers rule (cited_sentences x.around.scope x.line.cites) s) o q
+    (one rule (cited_sentences x.around.scope x.line.cites) s) h k
+
+of_kind : {A : Type 0} (allowed : Rule → Bool) (answers : Answers A) (premises : List Sent) (x : Placed) (of : RuleKind) (rule : Rule) (s : Option Sent) (o q : Option (Failure A)) → AreOne answers →
+    IsFailureOfKind allowed answers premises x of rule s o → IsFailureOfKind allowed answers premises x of rule s q → o ≡ q
+of_kind allowed answers premises x kind.Premise rule (Some s) o q one h k = premise_one (Contains premises s) o q (premise_cases (Contains premises s) o h) (premise_cases (Contains premises s) q k)
+of_kind allowed answers premises x kind.Premise rule None o q one h k = absurd h
+of_kind allowed answers premises x kind.Opening rule s o q one h k = box_one premises x.around x.line.boxed o q (box_cases premises x.around x.line.boxed o h) (box_cases premises x.around x.line.boxed q k)
+of_kind allowed answers premises x kind.Propositional rule (Some s) o q one h k = own_one allowed x rule s o q h k
+of_kind allowed answers premises x kind.Propositional rule None o q one h k = absurd h
+of_kind allowed answers premises x kind.Quantified rule (Some s) o q one h k = own_one allowed x rule s o q h k
+of_kind allowed answers premises x kind.Quantified rule None o q one h k = absurd h
+of_kind allowed answers premises x kind.Consequence rule (Some s) o q one h k = by_answer allowed answers x rule s o q one h k
+of_kind allowed answers premises x kind.Consequence rule None o q one h k = absurd h
 
 pub one_first_failure : {A : Type 0} (allowed : Rule → Bool) (answers : Answers A) → OneFirstFailure allowed answers
-one_first_failure allowed answers premises x o q one h k = at_rule allowed answers premises x x.line.rule x.line.sentence o q one h k
+one_first_failure allowed answers premises x o q one h k = of_kind allowed answers premises x (kind_of x.line.rule) x.line.rule x.line.sentence o q one h k

@@ -6,7 +6,6 @@ use Rattle.fol_core.specs.declared.sent.Sent.{Sent}
 use Rattle.fol_core.specs.Statements.{statement}
 use Rattle.fol_core.specs.Subst.{occurs}
 use Rattle.deriv_laws.specs.declared.rule.Rule.{Rule}
-use Rattle.deriv_laws.specs.declared.rule.Rule.TheVariants as r
 use Rattle.deriv_laws.specs.declared.line.Cite.{Cite}
 use Rattle.deriv_laws.specs.declared.line.FlatLine.{FlatLine}
 use Rattle.deriv_laws.specs.Derivable.{Der}
@@ -18,7 +17,10 @@ use Rattle.nested_proofs.specs.Items.{Opening, Assumes, Boxes, Items, Done, Step
 use Rattle.nested_proofs.specs.Scope.{prepend, cited_sentences, cited_subproofs}
 use Rattle.nested_proofs.specs.Placed.{Around, Placed, placed, outside, after_step, inside, after_sub, last_of}
 use Rattle.nested_proofs.specs.Fresh.{HasFreshBox}
-use Rattle.nested_proofs.specs.Justified.{Consequence, IsJustifiedBy, IsJustified, HasStatement}
+use Rattle.nested_proofs.specs.declared.kind.RuleKind.{RuleKind}
+use Rattle.nested_proofs.specs.declared.kind.RuleKind.TheVariants as kind
+use Rattle.nested_proofs.specs.Kinds.{kind_of, opens_subproof}
+use Rattle.nested_proofs.specs.Justified.{Consequence, IsOwnStep, IsJustifiedAs, IsJustifiedBy, IsJustified, HasStatement}
 use Rattle.nested_proofs.specs.Soundness.{IsDerived, IsSoundOver, HaveNoName, EachLineIsDerived, LastLineIsDerived, FaultlessProofShows}
 use Rattle.nested_proofs.proofs.Standing.{Leads, Good, Base, good_outside, good_step, good_inside, good_after}
 use Rattle.nested_proofs.proofs.Cited.{sentences_cited, subproofs_cited}
@@ -30,18 +32,23 @@ by_con : (con : Consequence) (premises base : List Sent) (t : Base con premises 
     con rule (cited_sentences a.scope line.cites) s → Der (a.assumed ++ base) s
 by_con con premises base t a line rule s g c f = t.consequence a.assumed rule (cited_sentences a.scope line.cites) s (sentences_cited (λ p. Der (a.assumed ++ base) p) a.scope line.cites g.sentences) c f
 
-by_step : (con : Consequence) (premises base : List Sent) (t : Base con premises base) (a : Around) (line : FlatLine) (rule : Rule) (s : Sent) → Good base a → IsTrue (statement s) → opens rule ≡ false →
-    IsJustifiedBy con premises a line rule (Some s) → Der (a.assumed ++ base) s
-by_step con premises base t a line r.Premise s g c o f = assume (a.assumed ++ base) s (contains_right a.assumed base s (t.has s f)) c
-by_step con premises base t a line r.Assume s g c o f = cc
-by_step con premises base t a line r.BoxOnly s g c o f = cc
-by_step con premises base t a line r.TautCon s g c o f = by_con con premises base t a line r.TautCon s g c f
-by_step con premises base t a line r.FoCon s g c o f = by_con con premises base t a line r.FoCon s g c f
-by_step con premises base t a line r.AnaCon s g c o f = by_con con premises base t a line r.AnaCon s g c f
-by_step con premises base t a line rule s g c o f =
+by_own : (con : Consequence) (premises base : List Sent) (a : Around) (line : FlatLine) (rule : Rule) (s : Sent) → Good base a → IsTrue (statement s) → IsOwnStep a line rule s → Der (a.assumed ++ base) s
+by_own con premises base a line rule s g c f =
     by_rule (a.assumed ++ base) rule (cited_sentences a.scope line.cites) (cited_subproofs a.scope line.cites) s
     (sentences_cited (λ p. Der (a.assumed ++ base) p) a.scope line.cites g.sentences)
     (subproofs_cited (Leads (a.assumed ++ base)) a.scope line.cites g.subproofs) c f.0 f.1
+
+step_of_kind : (con : Consequence) (premises base : List Sent) (t : Base con premises base) (a : Around) (line : FlatLine) (of : RuleKind) (rule : Rule) (s : Sent) → Good base a → IsTrue (statement s) → opens_subproof of ≡ false →
+    IsJustifiedAs con premises a line of rule (Some s) → Der (a.assumed ++ base) s
+step_of_kind con premises base t a line kind.Premise rule s g c o f = assume (a.assumed ++ base) s (contains_right a.assumed base s (t.has s f)) c
+step_of_kind con premises base t a line kind.Opening rule s g c o f = cc
+step_of_kind con premises base t a line kind.Propositional rule s g c o f = by_own con premises base a line rule s g c f
+step_of_kind con premises base t a line kind.Quantified rule s g c o f = by_own con premises base a line rule s g c f
+step_of_kind con premises base t a line kind.Consequence rule s g c o f = by_con con premises base t a line rule s g c f
+
+by_step : (con : Consequence) (premises base : List Sent) (t : Base con premises base) (a : Around) (line : FlatLine) (rule : Rule) (s : Sent) → Good base a → IsTrue (statement s) → opens rule ≡ false →
+    IsJustifiedBy con premises a line rule (Some s) → Der (a.assumed ++ base) s
+by_step con premises base t a line rule s g c o f = step_of_kind con premises base t a line (kind_of rule) rule s g c o f
 
 -- What the induction shows of the items of a list: each line is derived, and so is the last sentence of the list.
 pub record Shows (base : List Sent) (a : Around) (k d : ℕ) (items : Items) : Type 0 where

@@ -8,6 +8,7 @@ use Rattle.deriv_laws.specs.declared.line.StepFault.{StepFault}
 use Rattle.deriv_laws.specs.declared.line.StepFault.TheVariants as fault
 use Rattle.nested_proofs.specs.declared.count.Count.{Count}
 use Rattle.nested_proofs.specs.declared.count.Count.TheVariants.{Exactly, AtLeast}
+use Rattle.nested_proofs.specs.Kinds.{kind_of, infers}
 use Rattle.nested_proofs.specs.Scope.{Subproof, Scope, sentence_at, subproof_at}
 use Rattle.nested_proofs.specs.Placed.{Placed}
 
@@ -21,38 +22,89 @@ abbrev pub is_right : Count → ℕ → Bool
 is_right (Exactly n) k = k == n
 is_right (AtLeast n) k = nat_le n k
 
--- How many lines a rule cites. The rules of premises and openings aren't asked.
+-- How many lines a rule cites. Premises and openings cite none.
 abbrev pub takes_lines : Rule → Count
+takes_lines r.Premise = Exactly 0
+takes_lines r.Assume = Exactly 0
+takes_lines r.BoxOnly = Exactly 0
+takes_lines r.Reit = Exactly 1
 takes_lines r.AndIntro = AtLeast 1
+takes_lines r.AndElim = Exactly 1
+takes_lines r.OrIntro = Exactly 1
+takes_lines r.OrElim = Exactly 1
 takes_lines r.NotIntro = Exactly 0
-takes_lines r.IfIntro = Exactly 0
-takes_lines r.IffIntro = Exactly 0
-takes_lines r.EqIntro = Exactly 0
-takes_lines r.AllIntro = Exactly 0
+takes_lines r.NotElim = Exactly 1
 takes_lines r.BotIntro = Exactly 2
+takes_lines r.BotElim = Exactly 1
+takes_lines r.IfIntro = Exactly 0
 takes_lines r.IfElim = Exactly 2
+takes_lines r.IffIntro = Exactly 0
 takes_lines r.IffElim = Exactly 2
+takes_lines r.EqIntro = Exactly 0
 takes_lines r.EqElim = Exactly 2
+takes_lines r.AllIntro = Exactly 0
+takes_lines r.AllElim = Exactly 1
+takes_lines r.ExIntro = Exactly 1
+takes_lines r.ExElim = Exactly 1
 takes_lines r.TautCon = AtLeast 0
 takes_lines r.FoCon = AtLeast 0
 takes_lines r.AnaCon = AtLeast 0
-takes_lines _ = Exactly 1
 
 -- How many subproofs a rule cites.
 abbrev pub takes_subproofs : Rule → Count
+takes_subproofs r.Premise = Exactly 0
+takes_subproofs r.Assume = Exactly 0
+takes_subproofs r.BoxOnly = Exactly 0
+takes_subproofs r.Reit = Exactly 0
+takes_subproofs r.AndIntro = Exactly 0
+takes_subproofs r.AndElim = Exactly 0
+takes_subproofs r.OrIntro = Exactly 0
 takes_subproofs r.OrElim = AtLeast 1
 takes_subproofs r.NotIntro = Exactly 1
+takes_subproofs r.NotElim = Exactly 0
+takes_subproofs r.BotIntro = Exactly 0
+takes_subproofs r.BotElim = Exactly 0
 takes_subproofs r.IfIntro = Exactly 1
+takes_subproofs r.IfElim = Exactly 0
 takes_subproofs r.IffIntro = Exactly 2
+takes_subproofs r.IffElim = Exactly 0
+takes_subproofs r.EqIntro = Exactly 0
+takes_subproofs r.EqElim = Exactly 0
 takes_subproofs r.AllIntro = Exactly 1
+takes_subproofs r.AllElim = Exactly 0
+takes_subproofs r.ExIntro = Exactly 0
 takes_subproofs r.ExElim = Exactly 1
-takes_subproofs _ = Exactly 0
+takes_subproofs r.TautCon = Exactly 0
+takes_subproofs r.FoCon = Exactly 0
+takes_subproofs r.AnaCon = Exactly 0
 
 -- The rule's subproof boxes a constant.
 abbrev pub wants_box : Rule → Bool
+wants_box r.Premise = false
+wants_box r.Assume = false
+wants_box r.BoxOnly = false
+wants_box r.Reit = false
+wants_box r.AndIntro = false
+wants_box r.AndElim = false
+wants_box r.OrIntro = false
+wants_box r.OrElim = false
+wants_box r.NotIntro = false
+wants_box r.NotElim = false
+wants_box r.BotIntro = false
+wants_box r.BotElim = false
+wants_box r.IfIntro = false
+wants_box r.IfElim = false
+wants_box r.IffIntro = false
+wants_box r.IffElim = false
+wants_box r.EqIntro = false
+wants_box r.EqElim = false
 wants_box r.AllIntro = true
+wants_box r.AllElim = false
+wants_box r.ExIntro = false
 wants_box r.ExElim = true
-wants_box _ = false
+wants_box r.TautCon = false
+wants_box r.FoCon = false
+wants_box r.AnaCon = false
 
 -- The fault at the first of the cites that fails the test; cites are counted from k.
 abbrev pub first_failing : (Cite → Bool) → (ℕ → StepFault) → ℕ → List Cite → Option StepFault
@@ -112,10 +164,7 @@ step_cites_fault rule visible boxes cs =
 
 -- A line with this rule is inferred: it is no premise, and it opens no subproof.
 abbrev pub is_inferred : Rule → Bool
-is_inferred r.Premise = false
-is_inferred r.Assume = false
-is_inferred r.BoxOnly = false
-is_inferred _ = true
+is_inferred rule = infers (kind_of rule)
 
 -- The same for any line: only the cites of an inferred line are tested.
 abbrev pub fault_by : Rule → (Cite → Bool) → (Cite → Bool) → List Cite → Option StepFault

@@ -3,9 +3,11 @@ use Rattle.std.specs.Prelude.{◌≡◌, IsTrue, Bool, true, false, List, [], �
 use Rattle.fol_core.specs.declared.sent.Sent.{Sent}
 use Rattle.fol_core.specs.Word.{Word}
 use Rattle.deriv_laws.specs.declared.rule.Rule.{Rule}
-use Rattle.deriv_laws.specs.declared.rule.Rule.TheVariants as r
 use Rattle.deriv_laws.specs.declared.line.StepFault.{StepFault}
 use Rattle.deriv_laws.specs.declared.line.StepFault.TheVariants as fault
+use Rattle.nested_proofs.specs.declared.kind.RuleKind.{RuleKind}
+use Rattle.nested_proofs.specs.declared.kind.RuleKind.TheVariants as kind
+use Rattle.nested_proofs.specs.Kinds.{kind_of}
 use Rattle.nested_proofs.specs.Scope.{Subproof, cited_sentences, cited_subproofs}
 use Rattle.nested_proofs.specs.Placed.{Around, Placed}
 use Rattle.nested_proofs.specs.Rules.{Follows, StaysArbitrary}
@@ -64,23 +66,34 @@ IsConsequenceFailure false e R o = o ≡ Some NotAllowed
 IsConsequenceFailure true (Some e) R o = o ≡ Some (AsStep e)
 IsConsequenceFailure true None R o = IsAnswer R o
 
--- `IsFailureBy allowed answers premises x rule s o`: the placed line x, with this rule and this sentence
--- or none, first fails as o says, or it fails no test where o is none.
-abbrev pub IsFailureBy : {A : Type 0} → (Rule → Bool) → Answers A → List Sent → Placed → Rule → Option Sent → Option (Failure A) → Type 0
-IsFailureBy allowed answers premises x r.Premise (Some s) o = IsPremiseFailure (Contains premises s) o
-IsFailureBy allowed answers premises x r.Assume s o = IsBoxFailure premises x.around x.line.boxed o
-IsFailureBy allowed answers premises x r.BoxOnly s o = IsBoxFailure premises x.around x.line.boxed o
-IsFailureBy allowed answers premises x r.TautCon (Some s) o =
-    IsConsequenceFailure (allowed r.TautCon) (cites_fault r.TautCon x.around.scope x.line.cites) (answers r.TautCon (cited_sentences x.around.scope x.line.cites) s) o
-IsFailureBy allowed answers premises x r.FoCon (Some s) o =
-    IsConsequenceFailure (allowed r.FoCon) (cites_fault r.FoCon x.around.scope x.line.cites) (answers r.FoCon (cited_sentences x.around.scope x.line.cites) s) o
-IsFailureBy allowed answers premises x r.AnaCon (Some s) o =
-    IsConsequenceFailure (allowed r.AnaCon) (cites_fault r.AnaCon x.around.scope x.line.cites) (answers r.AnaCon (cited_sentences x.around.scope x.line.cites) s) o
-IsFailureBy allowed answers premises x rule (Some s) o =
+-- How a step by a rule of the system itself first fails.
+abbrev pub IsOwnFailure : {A : Type 0} → (Rule → Bool) → Placed → Rule → Sent → Option (Failure A) → Type 0
+IsOwnFailure allowed x rule s o =
     let ps : List Sent = cited_sentences x.around.scope x.line.cites in
     let bs : List Subproof = cited_subproofs x.around.scope x.line.cites in
     IsStepFailure (allowed rule) (cites_fault rule x.around.scope x.line.cites) (Follows rule ps bs s) (StaysArbitrary rule ps bs s) bs o
-IsFailureBy allowed answers premises x rule None o = ⊥
+
+-- How a step by a consequence rule first fails.
+abbrev pub IsConsequenceStepFailure : {A : Type 0} → (Rule → Bool) → Answers A → Placed → Rule → Sent → Option (Failure A) → Type 0
+IsConsequenceStepFailure allowed answers x rule s o =
+    IsConsequenceFailure (allowed rule) (cites_fault rule x.around.scope x.line.cites) (answers rule (cited_sentences x.around.scope x.line.cites) s) o
+
+-- How the placed line x first fails, with a rule of this kind and this sentence or none: a premise, an opening, or a step.
+abbrev pub IsFailureOfKind : {A : Type 0} → (Rule → Bool) → Answers A → List Sent → Placed → RuleKind → Rule → Option Sent → Option (Failure A) → Type 0
+IsFailureOfKind allowed answers premises x kind.Premise rule (Some s) o = IsPremiseFailure (Contains premises s) o
+IsFailureOfKind allowed answers premises x kind.Premise rule None o = ⊥
+IsFailureOfKind allowed answers premises x kind.Opening rule s o = IsBoxFailure premises x.around x.line.boxed o
+IsFailureOfKind allowed answers premises x kind.Propositional rule (Some s) o = IsOwnFailure allowed x rule s o
+IsFailureOfKind allowed answers premises x kind.Propositional rule None o = ⊥
+IsFailureOfKind allowed answers premises x kind.Quantified rule (Some s) o = IsOwnFailure allowed x rule s o
+IsFailureOfKind allowed answers premises x kind.Quantified rule None o = ⊥
+IsFailureOfKind allowed answers premises x kind.Consequence rule (Some s) o = IsConsequenceStepFailure allowed answers x rule s o
+IsFailureOfKind allowed answers premises x kind.Consequence rule None o = ⊥
+
+-- `IsFailureBy allowed answers premises x rule s o`: the placed line x, with this rule and this sentence
+-- or none, first fails as o says, or it fails no test where o is none.
+abbrev pub IsFailureBy : {A : Type 0} → (Rule → Bool) → Answers A → List Sent → Placed → Rule → Option Sent → Option (Failure A) → Type 0
+IsFailureBy allowed answers premises x rule s o = IsFailureOfKind allowed answers premises x (kind_of rule) rule s o
 
 -- The first test that the line fails, or none.
 abbrev pub IsFirstFailure : {A : Type 0} → (Rule → Bool) → Answers A → List Sent → Placed → Option (Failure A) → Type 0

@@ -1,11 +1,12 @@
 -- Nested proofs, and the lines that they are written as.
-use Rattle.std.specs.Prelude.{◌≡◌, ℕ, Bool, true, false, ◌+◌, List, [], ◌∷◌, ◌++◌, Option, Some, None}
+use Rattle.std.specs.Prelude.{◌≡◌, ℕ, Bool, false, ◌+◌, List, [], ◌∷◌, ◌++◌, Option, Some, None}
 use Rattle.fol_core.specs.declared.sent.Sent.{Sent}
 use Rattle.fol_core.specs.Word.{Word}
 use Rattle.deriv_laws.specs.declared.rule.Rule.{Rule}
 use Rattle.deriv_laws.specs.declared.rule.Rule.TheVariants as r
 use Rattle.deriv_laws.specs.declared.line.Cite.{Cite}
 use Rattle.deriv_laws.specs.declared.line.FlatLine.{FlatLine}
+use Rattle.nested_proofs.specs.Kinds.{kind_of, opens_subproof}
 
 -- How a subproof begins: with an assumption and a boxed constant or none, or with a boxed constant alone.
 pub data Opening : Type 0 where
@@ -53,9 +54,7 @@ size (Sub o body rest) = 1 + size body + size rest
 
 -- A line with this rule opens a subproof.
 abbrev pub opens : Rule → Bool
-opens r.Assume = true
-opens r.BoxOnly = true
-opens _ = false
+opens rule = opens_subproof (kind_of rule)
 
 -- No step has a rule that opens a subproof.
 abbrev pub AreProper : Items → Type 0

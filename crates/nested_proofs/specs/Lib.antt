@@ -1,3 +1,4 @@
+pub mod Kinds
 pub mod Items
 pub mod Scope
 pub mod Placed

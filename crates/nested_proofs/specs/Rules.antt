@@ -110,9 +110,38 @@ Follows _ _ _ _ = ⊥
 abbrev pub BoxStaysIn : Subproof → List Sent → Type 0
 BoxStaysIn b ss = IfSome b.boxed (λ c. AllByRecursion (λ s. occurs c s ≡ false) ss)
 
+-- Where there is one subproof, the constant that it boxes occurs in none of these sentences.
+abbrev pub OneStaysIn : List Subproof → List Sent → Type 0
+OneStaysIn [] ss = Unit {0}
+OneStaysIn (b ∷ []) ss = BoxStaysIn b ss
+OneStaysIn (b ∷ c ∷ bs) ss = Unit {0}
+
 -- The second test of the two rules that need a boxed constant: it occurs in nothing that the line says
 -- beside the subproof, which is its own sentence, and at existential elimination the cited sentence.
+-- The other rules box nothing.
 abbrev pub StaysArbitrary : Rule → List Sent → List Subproof → Sent → Type 0
-StaysArbitrary r.AllIntro ps (b ∷ []) s = BoxStaysIn b (s ∷ [])
-StaysArbitrary r.ExElim ps (b ∷ []) s = BoxStaysIn b (s ∷ ps)
-StaysArbitrary _ _ _ _ = Unit {0}
+StaysArbitrary r.Premise ps bs s = Unit {0}
+StaysArbitrary r.Assume ps bs s = Unit {0}
+StaysArbitrary r.BoxOnly ps bs s = Unit {0}
+StaysArbitrary r.Reit ps bs s = Unit {0}
+StaysArbitrary r.AndIntro ps bs s = Unit {0}
+StaysArbitrary r.AndElim ps bs s = Unit {0}
+StaysArbitrary r.OrIntro ps bs s = Unit {0}
+StaysArbitrary r.OrElim ps bs s = Unit {0}
+StaysArbitrary r.NotIntro ps bs s = Unit {0}
+StaysArbitrary r.NotElim ps bs s = Unit {0}
+StaysArbitrary r.BotIntro ps bs s = Unit {0}
+StaysArbitrary r.BotElim ps bs s = Unit {0}
+StaysArbitrary r.IfIntro ps bs s = Unit {0}
+StaysArbitrary r.IfElim ps bs s = Unit {0}
+StaysArbitrary r.IffIntro ps bs s = Unit {0}
+StaysArbitrary r.IffElim ps bs s = Unit {0}
+StaysArbitrary r.EqIntro ps bs s = Unit {0}
+StaysArbitrary r.EqElim ps bs s = Unit {0}
+StaysArbitrary r.AllIntro ps bs s = OneStaysIn bs (s ∷ [])
+StaysArbitrary r.AllElim ps bs s = Unit {0}
+StaysArbitrary r.ExIntro ps bs s = Unit {0}
+StaysArbitrary r.ExElim ps bs s = OneStaysIn bs (s ∷ ps)
+StaysArbitrary r.TautCon ps bs s = Unit {0}
+StaysArbitrary r.FoCon ps bs s = Unit {0}
+StaysArbitrary r.AnaCon ps bs s = Unit {0}

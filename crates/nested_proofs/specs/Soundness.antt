@@ -1,13 +1,13 @@
 -- Soundness: what the lines of a nested proof state is derivable.
-use Rattle.std.specs.Prelude.{◌≡◌, true, false, IsTrue, Bool, List, ◌++◌, Some, None, IfSome, if◌then◌else◌}
+use Rattle.std.specs.Prelude.{◌≡◌, false, IsTrue, Bool, List, ◌++◌, Some, None, IfSome, if◌then◌else◌}
 use Rattle.std.specs.List.{AllByRecursion}
 use Rattle.fol_core.specs.declared.sent.Sent.{Sent}
 use Rattle.fol_core.specs.Word.{Word}
 use Rattle.fol_core.specs.Statements.{statement, AreStatements}
 use Rattle.fol_core.specs.Subst.{occurs}
 use Rattle.deriv_laws.specs.declared.rule.Rule.{Rule}
-use Rattle.deriv_laws.specs.declared.rule.Rule.TheVariants as r
 use Rattle.deriv_laws.specs.Derivable.{Der}
+use Rattle.nested_proofs.specs.Kinds.{kind_of, is_own_kind}
 use Rattle.nested_proofs.specs.Items.{Items, opens, AreProper}
 use Rattle.nested_proofs.specs.Scope.{prepend}
 use Rattle.nested_proofs.specs.Placed.{Placed, lines_of, last_of}
@@ -55,10 +55,7 @@ FaultlessProofShows allowed answers axioms = (premises : List Sent) (items : Ite
 
 -- The rules other than the consequence rules are allowed.
 abbrev pub without_consequence : Rule → Bool
-without_consequence r.TautCon = false
-without_consequence r.FoCon = false
-without_consequence r.AnaCon = false
-without_consequence _ = true
+without_consequence rule = is_own_kind (kind_of rule)
 
 -- No consequence rule answers.
 abbrev pub no_answer : Answers Sent

@@ -6,6 +6,7 @@ ghost use Rattle.nested_proofs.specs.Limits.{AreInForm};
 ghost use Rattle.nested_proofs.specs.Visible as visible;
 
 use crate::count::{takes_lines, takes_subproofs, wants_box};
+use crate::kind::{RuleKind, kind_of};
 use crate::lines::Lines;
 use crate::visibility::{sees_line, sees_subproof};
 use deriv_laws::{Cite, FlatLine, Rule, StepFault};
@@ -32,9 +33,11 @@ fn line_fault(proof: &Lines, line: &FlatLine, j: usize) -> Option<StepFault>
     ensures value { result ≡
         tests.fault_by line.now.rule (visible.sees proof.now j) (visible.sees_box proof.now j) line.now.cites }
 {
-    match line.rule {
-        Rule::Premise | Rule::Assume | Rule::BoxOnly => None,
-        rule => step_fault(proof, rule, line.cites.as_slice(), j),
+    match kind_of(line.rule) {
+        RuleKind::Premise | RuleKind::Opening => None,
+        RuleKind::Propositional | RuleKind::Quantified | RuleKind::Consequence => {
+            step_fault(proof, line.rule, line.cites.as_slice(), j)
+        }
     }
 }
 

@@ -32,17 +32,31 @@ impl Count {
     }
 }
 
-/// How many lines a rule cites.
+/// How many lines a rule cites. Premises and openings cite none.
 pub fn takes_lines(rule: Rule) -> Count
     ensures value { result ≡ tests.takes_lines rule }
 {
     match rule {
+        Rule::Premise
+        | Rule::Assume
+        | Rule::BoxOnly
+        | Rule::NotIntro
+        | Rule::IfIntro
+        | Rule::IffIntro
+        | Rule::EqIntro
+        | Rule::AllIntro => Count::Exactly(0),
         Rule::AndIntro => Count::AtLeast(1),
-        Rule::NotIntro | Rule::IfIntro | Rule::IffIntro | Rule::EqIntro | Rule::AllIntro =>
-            Count::Exactly(0),
+        Rule::Reit
+        | Rule::AndElim
+        | Rule::OrIntro
+        | Rule::OrElim
+        | Rule::NotElim
+        | Rule::BotElim
+        | Rule::AllElim
+        | Rule::ExIntro
+        | Rule::ExElim => Count::Exactly(1),
         Rule::BotIntro | Rule::IfElim | Rule::IffElim | Rule::EqElim => Count::Exactly(2),
         Rule::TautCon | Rule::FoCon | Rule::AnaCon => Count::AtLeast(0),
-        _ => Count::Exactly(1),
     }
 }
 
@@ -51,10 +65,28 @@ pub fn takes_subproofs(rule: Rule) -> Count
     ensures value { result ≡ tests.takes_subproofs rule }
 {
     match rule {
+        Rule::Premise
+        | Rule::Assume
+        | Rule::BoxOnly
+        | Rule::Reit
+        | Rule::AndIntro
+        | Rule::AndElim
+        | Rule::OrIntro
+        | Rule::NotElim
+        | Rule::BotIntro
+        | Rule::BotElim
+        | Rule::IfElim
+        | Rule::IffElim
+        | Rule::EqIntro
+        | Rule::EqElim
+        | Rule::AllElim
+        | Rule::ExIntro
+        | Rule::TautCon
+        | Rule::FoCon
+        | Rule::AnaCon => Count::Exactly(0),
         Rule::OrElim => Count::AtLeast(1),
         Rule::NotIntro | Rule::IfIntro | Rule::AllIntro | Rule::ExElim => Count::Exactly(1),
         Rule::IffIntro => Count::Exactly(2),
-        _ => Count::Exactly(0),
     }
 }
 

@@ -3,13 +3,14 @@ ghost use Rattle.nested_proofs.specs.Items as items;
 ghost use Rattle.nested_proofs.specs.Levels as levels;
 ghost use Rattle.nested_proofs.specs.Limits.{DepthFits};
 
+use crate::kind::{RuleKind, kind_of};
 use deriv_laws::{FlatLine, Rule};
 
 /// Whether a line with this rule opens a subproof.
 pub fn opens(rule: Rule) -> bool
     ensures value { result ≡ items.opens rule }
 {
-    matches!(rule, Rule::Assume | Rule::BoxOnly)
+    matches!(kind_of(rule), RuleKind::Opening)
 }
 
 /// The depth of the list in which the line, or the subproof that it opens, is an item.

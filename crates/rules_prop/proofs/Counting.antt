@@ -9,15 +9,9 @@ use Rattle.deriv_laws.specs.declared.line.Cite.{Cite}
 use Rattle.nested_proofs.specs.Scope.{Subproof}
 use Rattle.nested_proofs.specs.Rules.{Follows}
 use Rattle.nested_proofs.specs.CiteTests.{lines_cited, subproofs_cited, counts_fit, is_inferred}
-use Rattle.nested_proofs.proofs.CiteFaults.{all_cited}
-use Rattle.rules_prop.specs.Propositional.{is_from_one, is_from_two, is_propositional}
-
-pub both : (a b : Bool) → (a && b) ≡ true → (a ≡ true) × (b ≡ true)
-both true b e = (refl, e)
-both false b e = cc
-
-pub exactly : (k m i j : ℕ) → ((k == i) && (m == j)) ≡ true → (k ≡ i) × (m ≡ j)
-exactly k m i j e = let h = both (k == i) (m == j) e in (eqb-true k i h.0, eqb-true m j h.1)
+use Rattle.nested_proofs.proofs.CiteCounts.{both, exactly}
+use Rattle.rules_prop.specs.Premises.{is_from_one, is_from_two}
+use Rattle.rules_prop.specs.Propositional.{is_propositional}
 
 -- a rule from one line cites one line and no subproof
 pub one_line : (rule : Rule) (cs : List Cite) → is_from_one rule ≡ true → counts_fit rule cs ≡ true → (lines_cited cs ≡ 1) × (subproofs_cited cs ≡ 0)
@@ -54,21 +48,6 @@ one_conditional cs h = exactly (lines_cited cs) (subproofs_cited cs) 0 1 h
 pub two_ways : (cs : List Cite) → counts_fit r.IffIntro cs ≡ true → (lines_cited cs ≡ 0) × (subproofs_cited cs ≡ 2)
 two_ways cs h = exactly (lines_cited cs) (subproofs_cited cs) 0 2 h
 
--- so many cites
-pub in_all : (cs : List Cite) (k m : ℕ) → (lines_cited cs ≡ k) × (subproofs_cited cs ≡ m) → length cs ≡ k + m
-in_all cs k m h = omega (arith, all_cited cs, h.0, h.1)
-
-pub pair_of : (cs : List Cite) (d : Cite) → length cs ≡ 2 → cs ≡ get_or cs 0 d ∷ get_or cs 1 d ∷ []
-pair_of [] d e = absurd (omega (arith, e))
-pair_of (x ∷ []) d e = absurd (omega (arith, e))
-pair_of (x ∷ y ∷ []) d e = refl
-pair_of (x ∷ y ∷ z ∷ cs) d e = absurd (omega (arith, e))
-
-pub single : (cs : List Cite) (d : Cite) → length cs ≡ 1 → cs ≡ get_or cs 0 d ∷ []
-single [] d e = absurd (omega (arith, e))
-single (x ∷ []) d e = refl
-single (x ∷ y ∷ cs) d e = absurd (omega (arith, e))
-
 -- a rule from two lines gives nothing from fewer
 pub few : (rule : Rule) (ps : List Sent) (s : Sent) → is_from_two rule ≡ true → length ps < 2 → Follows rule ps [] s → ⊥
 few r.BotIntro [] s e h f = f
@@ -81,10 +60,6 @@ few r.IffElim [] s e h f = f
 few r.IffElim (p ∷ []) s e h f = f
 few r.IffElim (p ∷ q ∷ ps) s e h f = omega (arith, h)
 few rule ps s e h f = cc
-
--- what is tested of equal lists
-pub read_as : (rule : Rule) (ps qs : List Sent) (bs cs : List Subproof) (s : Sent) (b : Bool) → ps ≡ qs → bs ≡ cs → IsTrue b ↔ Follows rule qs cs s → IsTrue b ↔ Follows rule ps bs s
-read_as rule ps qs bs cs s b e f h = subst (λ xs. IsTrue b ↔ Follows rule xs bs s) (sym e) (subst (λ ys. IsTrue b ↔ Follows rule qs ys s) (sym f) h)
 
 -- the propositional rules are rules of inferred lines
 pub inferred : (rule : Rule) → is_propositional rule ≡ true → is_inferred rule ≡ true

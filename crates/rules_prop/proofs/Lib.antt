@@ -1,5 +1,5 @@
 pub mod Drawing
-pub mod ReadCites
+pub mod CasesShown
+pub mod LaterCites
 pub mod Counting
 pub mod Showing
-pub mod AtProp

@@ -13,9 +13,9 @@ use Rattle.nested_proofs.specs.Rules.{Goes, Follows}
 use Rattle.nested_proofs.specs.CiteTests.{subproofs_cited}
 use Rattle.nested_proofs.specs.ReadOff.{stated_at, subproof_between, sentences_read, subproofs_read}
 use Rattle.rules_prop.specs.Shown.{GoesAt, SomeGoes}
-use Rattle.rules_prop.specs.Propositional.{is_from_two}
+use Rattle.rules_prop.specs.Premises.{is_from_two}
 use Rattle.rules_prop.proofs.Counting.{few}
-use Rattle.rules_prop.proofs.ReadCites.{no_subproofs}
+use Rattle.nested_proofs.proofs.ReadCites.{no_subproofs, two_read}
 
 -- a conjunction of cited sentences, whose line cites no subproof
 pub joined : (ps : List Sent) (bs : List Subproof) (parts : List Sent) (s : Sent) (b : Bool) → bs ≡ [] → s ≡ And parts → IsTrue b ↔ AllByRecursion (λ p. Contains ps p) parts → IsTrue b ↔ Follows r.AndIntro ps bs s
@@ -80,24 +80,6 @@ both_shown ls cs one other s b e n h =
     go true true q = ways_of (subproof_between ls one.first one.last) (subproof_between ls other.first other.last) s b h
     go true false q = let x = q.1 in cc
     go false v q = let x = q.0 in cc
-
--- two cited lines, and no subproof
-pub two_cited : (one other : Cite) → subproofs_cited (one ∷ other ∷ []) ≡ 0 → (one.sub ≡ false) × (other.sub ≡ false)
-two_cited one other = go one.sub other.sub
-  where
-    go : (a b : Bool) → length (cond a (one ∷ cond b (other ∷ []) []) (cond b (other ∷ []) [])) ≡ 0 → (a ≡ false) × (b ≡ false)
-    go false false e = (refl, refl)
-    go true b e = absurd (omega (arith, e))
-    go false true e = absurd (omega (arith, e))
-
--- the sentences of two cited lines
-pub two_read : (ls : List FlatLine) (cs : List Cite) (one other : Cite) → cs ≡ one ∷ other ∷ [] → subproofs_cited cs ≡ 0 → sentences_read ls cs ≡ prepend (stated_at ls one.first) (prepend (stated_at ls other.first) [])
-two_read ls cs one other e n = ap (sentences_read ls) e ∙ go one.sub other.sub (two_cited one other (subst (λ xs. subproofs_cited xs ≡ 0) e n))
-  where
-    go : (u v : Bool) → (u ≡ false) × (v ≡ false) → cond u (cond v [] (prepend (stated_at ls other.first) [])) (prepend (stated_at ls one.first) (cond v [] (prepend (stated_at ls other.first) []))) ≡ prepend (stated_at ls one.first) (prepend (stated_at ls other.first) [])
-    go false false q = refl
-    go true v q = let x = q.0 in cc
-    go false true q = let x = q.1 in cc
 
 -- a rule from two lines gives nothing where the first of them states nothing
 pub one_missing : (rule : Rule) (ls : List FlatLine) (cs : List Cite) (one other : Cite) (s : Sent) → is_from_two rule ≡ true → cs ≡ one ∷ other ∷ [] → subproofs_cited cs ≡ 0 → stated_at ls one.first ≡ None →

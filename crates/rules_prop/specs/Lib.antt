@@ -1,2 +1,4 @@
 pub mod Propositional
+pub mod Premises
 pub mod Shown
+pub mod Ending

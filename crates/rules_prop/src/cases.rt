@@ -1,112 +1,72 @@
-ghost use Rattle.std.specs.Prelude.{◌≡◌, ◌↔◌, IsTrue, length, option_copied, true};
+ghost use Rattle.std.specs.Prelude.{◌≡◌, ◌↔◌, ◌≤◌, IsTrue, Some, length, true};
 ghost use Rattle.std.specs.List.{AllByRecursion};
-ghost use Rattle.fol_core.specs.declared.sent.Sent.{Sent as Sentence};
-ghost use Rattle.fol_core.specs.declared.sent.Sent.TheVariants as form;
 ghost use Rattle.nested_proofs.specs.ReadOff.{IsWithin, subproofs_read};
-ghost use Rattle.rules_prop.specs.Shown.{GoBothWays, GoesAt, SomeGoes};
+ghost use Rattle.rules_prop.specs.Shown.{SomeGoes};
+ghost use Rattle.rules_prop.specs.Ending.{AreEnding, EndsIn, SomeBegins};
 
+use crate::subproofs::is;
+use bit_sets::BitSet;
 use deriv_laws::{Cite, FlatLine};
-use fol_core::{Sent, same};
+use fol_core::Sent;
 use nested_proofs::{cited_conclusion, cited_sentence};
 
-/// Whether the cited subproof goes from the assumption `p` to the conclusion `q`.
-pub fn goes(lines: &[FlatLine], cite: Cite, p: &Sent, q: &Sent) -> bool
-    requires within { IsWithin (length lines.now) cite }
-    ensures exact { IsTrue result ↔ GoesAt lines.now cite p.now q.now }
-{
-    is(cited_sentence(lines, cite), p) && is(cited_conclusion(lines, cite), q)
-}
-
-/// Whether there is a sentence, and it is this one.
-fn is(found: Option<&Sent>, s: &Sent) -> bool
-    ensures exact { IsTrue result ↔ (option_copied found.entry ≡ Some s.now) }
-{
-    match found {
-        Some(sentence) => same(sentence, s),
-        None => false,
-    }
-}
-
-/// Whether `s` is a negation, and the cited subproof goes from what it denies to absurdity.
-pub fn reduces(lines: &[FlatLine], cite: Cite, s: &Sent) -> bool
-    requires within { IsWithin (length lines.now) cite }
-    ensures exact { IsTrue result
-        ↔ ((p : Sentence) × (s.now ≡ form.Not p) × GoesAt lines.now cite p form.Bottom) }
-{
-    match s {
-        Sent::Not(denied) => goes(lines, cite, denied.get(), &Sent::Bottom),
-        _ => false,
-    }
-}
-
-/// Whether `s` is a conditional, and the cited subproof goes from its antecedent to its consequent.
-pub fn leads(lines: &[FlatLine], cite: Cite, s: &Sent) -> bool
-    requires within { IsWithin (length lines.now) cite }
-    ensures exact { IsTrue result
-        ↔ ((p : Sentence) × (q : Sentence) × (s.now ≡ form.If p q) × GoesAt lines.now cite p q) }
-{
-    match s {
-        Sent::If(antecedent, consequent) => goes(lines, cite, antecedent.get(), consequent.get()),
-        _ => false,
-    }
-}
-
-/// Whether `s` is a biconditional, and one of the cited subproofs goes from its first side to its second, and the
-/// other from its second to its first.
-pub fn leads_both_ways(lines: &[FlatLine], one: Cite, other: Cite, s: &Sent) -> bool
-    requires one_within { IsWithin (length lines.now) one }
-    requires other_within { IsWithin (length lines.now) other }
-    ensures exact { IsTrue result ↔ GoBothWays lines.now one other s.now }
-{
-    match s {
-        Sent::Iff(left, right) => {
-            go_and_return(lines, one, other, left.get(), right.get())
-                || go_and_return(lines, one, other, right.get(), left.get())
-        }
-        _ => false,
-    }
-}
-
-/// Whether the first cited subproof goes from `p` to `q`, and the second from `q` to `p`.
-fn go_and_return(lines: &[FlatLine], one: Cite, other: Cite, p: &Sent, q: &Sent) -> bool
-    requires one_within { IsWithin (length lines.now) one }
-    requires other_within { IsWithin (length lines.now) other }
-    ensures exact { IsTrue result ↔ (GoesAt lines.now one p.now q.now × GoesAt lines.now other q.now p.now) }
-{
-    goes(lines, one, p, q) && goes(lines, other, q, p)
-}
-
-/// Whether for each part there is a cited subproof that goes from it to `s`.
+/// Whether for each part there is a cited subproof that goes from it to `s`. Where the cited subproofs end is looked up
+/// once, whatever the number of parts.
 pub fn covers(lines: &[FlatLine], cites: &[Cite], parts: &[Sent], s: &Sent) -> bool
+    requires few { length cites.now ≤ 64 }
     requires within { AllByRecursion (IsWithin (length lines.now)) cites.now }
     ensures exact { IsTrue result
         ↔ AllByRecursion (λ p. SomeGoes (subproofs_read lines.now cites.now) p s.now) parts.now }
 {
+    let ending = ending_in(lines, cites, s);
+    all_begin(lines, cites, ending, parts)
+}
+
+/// The places of the cited subproofs that end in `s`, counted from 0.
+fn ending_in(lines: &[FlatLine], cites: &[Cite], s: &Sent) -> BitSet
+    requires few { length cites.now ≤ 64 }
+    requires within { AllByRecursion (IsWithin (length lines.now)) cites.now }
+    ensures exact { AreEnding lines.now cites.now s.now result.bits }
+{
+    let mut ending = BitSet::all_or_none(false);
+    for i in 0..cites.len() {
+        ending = ending.with(i as u32, ends_in(lines, cites[i], s));
+    }
+    ending
+}
+
+/// Whether the cite is a subproof that ends in `s`.
+fn ends_in(lines: &[FlatLine], cite: Cite, s: &Sent) -> bool
+    requires within { IsWithin (length lines.now) cite }
+    ensures exact { IsTrue result ↔ EndsIn lines.now s.now cite }
+{
+    cite.sub && is(cited_conclusion(lines, cite), s)
+}
+
+/// Whether for each part the cited subproof at one of these places begins with it.
+fn all_begin(lines: &[FlatLine], cites: &[Cite], places: BitSet, parts: &[Sent]) -> bool
+    requires few { length cites.now ≤ 64 }
+    requires within { AllByRecursion (IsWithin (length lines.now)) cites.now }
+    ensures exact { IsTrue result ↔ AllByRecursion (SomeBegins lines.now cites.now places.bits) parts.now }
+{
     for part in parts {
-        if !has_case(lines, cites, part, s) {
+        if !has_case(lines, cites, places, part) {
             return false;
         }
     }
     true
 }
 
-/// Whether one of the cited subproofs goes from `p` to `s`.
-fn has_case(lines: &[FlatLine], cites: &[Cite], p: &Sent, s: &Sent) -> bool
+/// Whether the cited subproof at one of these places begins with the assumption `p`.
+fn has_case(lines: &[FlatLine], cites: &[Cite], places: BitSet, p: &Sent) -> bool
+    requires few { length cites.now ≤ 64 }
     requires within { AllByRecursion (IsWithin (length lines.now)) cites.now }
-    ensures exact { IsTrue result ↔ SomeGoes (subproofs_read lines.now cites.now) p.now s.now }
+    ensures exact { IsTrue result ↔ SomeBegins lines.now cites.now places.bits p.now }
 {
-    for cite in cites {
-        if is_case(lines, *cite, p, s) {
+    for i in 0..cites.len() {
+        if places.has(i as u32) && is(cited_sentence(lines, cites[i]), p) {
             return true;
         }
     }
     false
-}
-
-/// Whether the cite is a subproof that goes from `p` to `s`.
-fn is_case(lines: &[FlatLine], cite: Cite, p: &Sent, s: &Sent) -> bool
-    requires within { IsWithin (length lines.now) cite }
-    ensures exact { IsTrue result ↔ ((cite.sub ≡ true) × GoesAt lines.now cite p.now s.now) }
-{
-    cite.sub && goes(lines, cite, p, s)
 }

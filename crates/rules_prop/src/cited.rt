@@ -1,25 +1,10 @@
-ghost use Rattle.std.specs.Prelude.{◌≡◌, ◌↔◌, IsTrue, Contains, false, length, option_copied, option_to_list};
+ghost use Rattle.std.specs.Prelude.{◌≡◌, ◌↔◌, IsTrue, Contains, Some, false, length};
 ghost use Rattle.std.specs.List.{AllByRecursion};
-ghost use Rattle.nested_proofs.specs.CiteTests.{lines_cited};
 ghost use Rattle.nested_proofs.specs.ReadOff.{IsWithin, sentences_read, stated_at};
 
 use deriv_laws::{Cite, FlatLine};
 use fol_core::{Sent, same};
 use nested_proofs::cited_sentence;
-
-/// The sentence of the one line among the cites; none where that line is a box alone.
-pub fn only_cited<'a>(lines: &'a [FlatLine], cites: &[Cite]) -> Option<&'a Sent>
-    requires within { AllByRecursion (IsWithin (length lines.now)) cites.now }
-    requires one { lines_cited cites.now ≡ 1 }
-    ensures read { sentences_read lines.now cites.now ≡ option_to_list (option_copied result) }
-{
-    for cite in cites {
-        if !cite.sub {
-            return cited_sentence(lines, *cite);
-        }
-    }
-    None
-}
 
 /// Whether each part is the sentence of a cited line.
 pub fn all_cited(lines: &[FlatLine], cites: &[Cite], parts: &[Sent]) -> bool

@@ -6,7 +6,7 @@ mod check;
 mod cited;
 mod from_lines;
 mod rules;
+mod subproofs;
 
 pub use check::check_prop;
-pub use cited::only_cited;
 pub use rules::is_propositional;

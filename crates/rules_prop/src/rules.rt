@@ -1,70 +1,52 @@
-ghost use Rattle.std.specs.Prelude.{◌≡◌, ◌↔◌, IsTrue, length, true};
+ghost use Rattle.std.specs.Prelude.{◌≡◌, ◌↔◌, ◌≤◌, IsTrue, length, true};
 ghost use Rattle.std.specs.List.{AllByRecursion};
 ghost use Rattle.deriv_laws.specs.declared.rule.Rule.TheVariants as rules;
 ghost use Rattle.nested_proofs.specs.CiteTests.{counts_fit};
 ghost use Rattle.nested_proofs.specs.ReadOff.{IsWithin};
 ghost use Rattle.rules_prop.specs.Shown.{FollowsFrom};
-ghost use Rattle.rules_prop.specs.Propositional as kinds;
+ghost use Rattle.rules_prop.specs.Propositional as propositional;
+ghost use Rattle.rules_prop.specs.Premises as cited;
 
-use crate::cases::{covers, leads, leads_both_ways, reduces};
-use crate::cited::{all_cited, only_cited};
+use crate::cases::covers;
+use crate::cited::all_cited;
 use crate::from_lines::{follows_from_one, follows_from_two};
+use crate::subproofs::{leads, leads_both_ways, reduces};
 use deriv_laws::{Cite, FlatLine, Rule};
 use fol_core::Sent;
-use nested_proofs::cited_sentence;
+use nested_proofs::{RuleKind, cited_sentence, kind_of, only_cited};
 
 /// Whether `s` follows by the rule from what the cites name.
 pub fn follows(lines: &[FlatLine], rule: Rule, cites: &[Cite], s: &Sent) -> bool
-    requires rule { kinds.is_propositional rule ≡ true }
+    requires rule { propositional.is_propositional rule ≡ true }
+    requires few { length cites.now ≤ 64 }
     requires counts { counts_fit rule cites.now ≡ true }
     requires within { AllByRecursion (IsWithin (length lines.now)) cites.now }
     ensures exact { IsTrue result ↔ FollowsFrom lines.now rule cites.now s.now }
 {
-    if is_from_one(rule) {
-        return by_one(lines, rule, cites, s);
+    match rule {
+        Rule::Reit | Rule::AndElim | Rule::OrIntro | Rule::NotElim | Rule::BotElim => {
+            by_one(lines, rule, cites, s)
+        }
+        Rule::BotIntro | Rule::IfElim | Rule::IffElim => by_two(lines, rule, cites, s),
+        Rule::AndIntro => joins(lines, cites, s),
+        Rule::OrElim => shows_each_case(lines, cites, s),
+        Rule::NotIntro => by_reduction(lines, cites, s),
+        Rule::IfIntro => by_conditional_proof(lines, cites, s),
+        Rule::IffIntro => by_both_ways(lines, cites, s),
+        _ => false,
     }
-    if is_from_two(rule) {
-        return by_two(lines, rule, cites, s);
-    }
-    by_others(lines, rule, cites, s)
 }
 
 /// Whether the rule is one of this crate's: from reiteration to the elimination of the biconditional.
 pub fn is_propositional(rule: Rule) -> bool
-    ensures value { result ≡ kinds.is_propositional rule }
+    ensures value { result ≡ propositional.is_propositional rule }
 {
-    is_from_one(rule) || is_from_two(rule) || is_from_others(rule)
+    matches!(kind_of(rule), RuleKind::Propositional)
 }
 
-/// Whether the rule cites one line.
-fn is_from_one(rule: Rule) -> bool
-    ensures value { result ≡ kinds.is_from_one rule }
-{
-    matches!(
-        rule,
-        Rule::Reit | Rule::AndElim | Rule::OrIntro | Rule::NotElim | Rule::BotElim
-    )
-}
-
-/// Whether the rule cites two lines.
-fn is_from_two(rule: Rule) -> bool
-    ensures value { result ≡ kinds.is_from_two rule }
-{
-    matches!(rule, Rule::BotIntro | Rule::IfElim | Rule::IffElim)
-}
-
-/// Whether the rule cites other numbers of lines, or subproofs.
-fn is_from_others(rule: Rule) -> bool
-    ensures value { result ≡ kinds.is_from_others rule }
-{
-    matches!(
-        rule,
-        Rule::AndIntro | Rule::OrElim | Rule::NotIntro | Rule::IfIntro | Rule::IffIntro
-    )
-}
-
+/// Whether `s` follows by a rule that cites one line.
 fn by_one(lines: &[FlatLine], rule: Rule, cites: &[Cite], s: &Sent) -> bool
-    requires rule { kinds.is_from_one rule ≡ true }
+    requires rule { cited.is_from_one rule ≡ true }
     requires counts { counts_fit rule cites.now ≡ true }
     requires within { AllByRecursion (IsWithin (length lines.now)) cites.now }
     ensures exact { IsTrue result ↔ FollowsFrom lines.now rule cites.now s.now }
@@ -75,8 +57,9 @@ fn by_one(lines: &[FlatLine], rule: Rule, cites: &[Cite], s: &Sent) -> bool
     }
 }
 
+/// Whether `s` follows by a rule that cites two lines.
 fn by_two(lines: &[FlatLine], rule: Rule, cites: &[Cite], s: &Sent) -> bool
-    requires rule { kinds.is_from_two rule ≡ true }
+    requires rule { cited.is_from_two rule ≡ true }
     requires counts { counts_fit rule cites.now ≡ true }
     requires within { AllByRecursion (IsWithin (length lines.now)) cites.now }
     ensures exact { IsTrue result ↔ FollowsFrom lines.now rule cites.now s.now }
@@ -93,22 +76,6 @@ fn by_two(lines: &[FlatLine], rule: Rule, cites: &[Cite], s: &Sent) -> bool
     follows_from_two(rule, p, q, s)
 }
 
-fn by_others(lines: &[FlatLine], rule: Rule, cites: &[Cite], s: &Sent) -> bool
-    requires rule { kinds.is_from_others rule ≡ true }
-    requires counts { counts_fit rule cites.now ≡ true }
-    requires within { AllByRecursion (IsWithin (length lines.now)) cites.now }
-    ensures exact { IsTrue result ↔ FollowsFrom lines.now rule cites.now s.now }
-{
-    match rule {
-        Rule::AndIntro => joins(lines, cites, s),
-        Rule::OrElim => shows_each_case(lines, cites, s),
-        Rule::NotIntro => by_reduction(lines, cites, s),
-        Rule::IfIntro => by_conditional_proof(lines, cites, s),
-        Rule::IffIntro => by_both_ways(lines, cites, s),
-        _ => false,
-    }
-}
-
 /// Whether `s` is a conjunction, each part of which is a cited sentence.
 fn joins(lines: &[FlatLine], cites: &[Cite], s: &Sent) -> bool
     requires counts { counts_fit rules.AndIntro cites.now ≡ true }
@@ -123,6 +90,7 @@ fn joins(lines: &[FlatLine], cites: &[Cite], s: &Sent) -> bool
 
 /// Whether the cited line is a disjunction, and for each part a cited subproof goes from it to `s`.
 fn shows_each_case(lines: &[FlatLine], cites: &[Cite], s: &Sent) -> bool
+    requires few { length cites.now ≤ 64 }
     requires counts { counts_fit rules.OrElim cites.now ≡ true }
     requires within { AllByRecursion (IsWithin (length lines.now)) cites.now }
     ensures exact { IsTrue result ↔ FollowsFrom lines.now rules.OrElim cites.now s.now }

@@ -1,4 +1,4 @@
--- What the caller of the check has shown of the line, read off the lines, and what the tests say of the line in its proof.
+-- What the tests say of the line in its proof.
 use Rattle.std.proofs.Common.{◌≡◌, ℕ, ◌-◌, ◌<◌, ◌≤◌, true, List, length, ap, sym, subst, ◌∙◌, Some, None, inl, inr, ◌⊎◌}
 use Rattle.std.specs.Prelude.{slice_get, IfSome, Option}
 use Rattle.fol_core.specs.declared.sent.Sent.{Sent}
@@ -18,29 +18,9 @@ use Rattle.nested_proofs.specs.StaysAt.{StaysAt, OneBoxes, BoxesAt}
 use Rattle.nested_proofs.specs.ReadOff.{sentences_read, subproofs_read}
 use Rattle.nested_proofs.proofs.Reading.{Agrees, where_agrees}
 use Rattle.nested_proofs.proofs.VisibleSentences.{both_turn}
-use Rattle.nested_proofs.proofs.AtCited.{HasCites, FindsAsRead, line_placed, cites_passed, finds_as_read}
-use Rattle.rules_prop.proofs.AtProp.{follows_at}
-use Rattle.rules_quant.specs.Quantified.{is_quantified}
+use Rattle.nested_proofs.proofs.AtCited.{HasCites, FindsAsRead, finds_as_read}
+use Rattle.nested_proofs.proofs.AtStep.{follows_at}
 use Rattle.rules_quant.specs.FailsAs.{FailsAs}
-use Rattle.rules_quant.proofs.Citing.{inferred}
-
--- the rule and the cites of line j, as its caller has shown them
-pub record IsReady (ls : List FlatLine) (j : ℕ) (l : FlatLine) : Type 0 where
-  pub rule : is_quantified l.rule ≡ true
-  pub cites : HasCites ls j l
-
-pub ready : (ls : List FlatLine) (j : ℕ) (l : FlatLine) → AreLines ls → 0 < j → j ≤ length ls → slice_get ls (j - 1) ≡ Some l → AtLine ls j (λ x. is_quantified x.line.rule ≡ true) →
-    AtLine ls j (λ x. cites_fault x.line.rule x.around.scope x.line.cites ≡ None) → IsReady ls j l
-ready ls j l w a b e p q = record { rule = rule; cites = cites }
-  where
-    same : (x : Placed) → Agrees ls j x → x.line ≡ l
-    same x g = let h : Some x.line ≡ Some l = sym g.line ∙ e in cc
-
-    rule : is_quantified l.rule ≡ true
-    rule = let x = line_placed ls j (λ x. is_quantified x.line.rule ≡ true) w a b p in subst (λ (y : FlatLine). is_quantified y.rule ≡ true) (same x.0 x.1) x.2
-
-    cites : HasCites ls j l
-    cites = let x = line_placed ls j (λ x. cites_fault x.line.rule x.around.scope x.line.cites ≡ None) w a b q in cites_passed ls j x.0 l w b e (inferred l.rule rule) x.1 x.2
 
 same_stays : (a b : Rule) (ps qs : List Sent) (bs cs : List Subproof) (s : Sent) → a ≡ b → ps ≡ qs → bs ≡ cs → StaysArbitrary a ps bs s → StaysArbitrary b qs cs s
 same_stays a b ps qs bs cs s e f g h = subst (λ x. StaysArbitrary x qs cs s) e (subst (λ xs. StaysArbitrary a xs cs s) f (subst (λ ys. StaysArbitrary a ps ys s) g h))

@@ -15,9 +15,9 @@ use Rattle.nested_proofs.specs.Rules.{Follows, StaysArbitrary}
 use Rattle.nested_proofs.specs.StaysAt.{OneBoxes}
 use Rattle.nested_proofs.specs.CiteTests.{lines_cited, subproofs_cited, counts_fit, is_inferred}
 use Rattle.nested_proofs.specs.ReadOff.{stated_at, subproof_between, sentences_read, subproofs_read}
-use Rattle.rules_prop.proofs.Counting.{exactly}
-use Rattle.rules_prop.proofs.ReadCites.{no_subproofs}
-use Rattle.rules_prop.proofs.Showing.{two_read}
+use Rattle.nested_proofs.proofs.CiteCounts.{exactly}
+use Rattle.nested_proofs.proofs.ReadCites.{no_subproofs}
+use Rattle.nested_proofs.proofs.ReadCites.{two_read}
 use Rattle.rules_quant.specs.Quantified.{is_quantified}
 use Rattle.rules_quant.specs.Shown.{IsGeneralAt, FollowsFrom}
 use Rattle.rules_quant.specs.Spoilt.{boxed_by, occurs_in, box_in}

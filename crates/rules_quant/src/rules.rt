@@ -12,17 +12,13 @@ use crate::rows::{Quantifier, leads};
 use crate::shown::{is_from_instance, is_general};
 use deriv_laws::{Cite, FlatLine, Rule};
 use fol_core::Sent;
-use nested_proofs::cited_sentence;
-use rules_prop::only_cited;
+use nested_proofs::{RuleKind, cited_sentence, kind_of, only_cited};
 
 /// Whether the rule is one of this crate's: those of identity and of the quantifiers.
 pub fn is_quantified(rule: Rule) -> bool
     ensures value { result ≡ kinds.is_quantified rule }
 {
-    matches!(
-        rule,
-        Rule::EqIntro | Rule::EqElim | Rule::AllIntro | Rule::AllElim | Rule::ExIntro | Rule::ExElim
-    )
+    matches!(kind_of(rule), RuleKind::Quantified)
 }
 
 /// Whether `s` follows by the rule from what the cites name.

@@ -1,10 +1,9 @@
-use Rattle.std.proofs.Common.{drop}
-use Rattle.nested_proofs.specs.ReadOff.{subproofs_read}
-use Rattle.rules_prop.specs.Shown.{SomeGoes}
+use Rattle.std.proofs.Common.{◌≡◌, ◌<◌, ℕ, Some, true}
+use Rattle.std.specs.Prelude.{slice_get}
+use Rattle.deriv_laws.specs.declared.line.Cite.{Cite}
+use Rattle.nested_proofs.specs.ReadOff.{stated_at}
+use Rattle.bit_sets.specs.BitSets.{has}
 use Rattle.rules_prop.proofs.cases.has_case.Given as goal
 
-abbrev pub invariant-loop-cite : goal.invariant-loop-cite
-invariant-loop-cite l = record {
-  on : SomeGoes (subproofs_read l.lines l.cites) l.p l.s → SomeGoes (subproofs_read l.lines (drop l.cite-index l.cites)) l.p l.s;
-  back : SomeGoes (subproofs_read l.lines (drop l.cite-index l.cites)) l.p l.s → SomeGoes (subproofs_read l.lines l.cites) l.p l.s;
-}
+abbrev pub invariant-loop-i : goal.invariant-loop-i
+invariant-loop-i l = (k : ℕ) (c : Cite) → k < l.i → slice_get l.cites k ≡ Some c → has l.places.bits k ≡ true → stated_at l.lines c.first ≡ Some l.p → ⊥

@@ -1,5 +1,5 @@
 -- A sentence that the cite doesn't state is stated by the later ones, if at all.
-use Rattle.rules_prop.proofs.ReadCites.{sentence_on}
+use Rattle.rules_prop.proofs.LaterCites.{sentence_on}
 use Rattle.rules_prop.proofs.cited.is_cited.Goals as goal
 
 pub loop-cite-preserved : goal.loop-cite-preserved

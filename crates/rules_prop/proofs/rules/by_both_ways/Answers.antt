@@ -1,6 +1,7 @@
 -- Two subproofs are all that is cited.
 use Rattle.std.proofs.Common.{arith, get_or}
-use Rattle.rules_prop.proofs.Counting.{in_all, two_ways, pair_of}
+use Rattle.nested_proofs.proofs.CiteCounts.{in_all, pair_of}
+use Rattle.rules_prop.proofs.Counting.{two_ways}
 use Rattle.rules_prop.proofs.Showing.{both_shown}
 use Rattle.rules_prop.proofs.rules.by_both_ways.Goals as goal
 

@@ -1,6 +1,7 @@
 -- One subproof is all that is cited.
 use Rattle.std.proofs.Common.{arith}
-use Rattle.rules_prop.proofs.Counting.{in_all, one_conditional}
+use Rattle.nested_proofs.proofs.CiteCounts.{in_all}
+use Rattle.rules_prop.proofs.Counting.{one_conditional}
 use Rattle.rules_prop.proofs.rules.by_conditional_proof.Goals as goal
 
 pub returns-in_default-2 : goal.returns-in_default-2

@@ -1,8 +1,9 @@
 -- The one cited line is all that is cited.
 use Rattle.std.proofs.Common.{◌≡◌, ◌∷◌, []}
 use Rattle.nested_proofs.specs.ReadOff.{sentences_read, subproofs_read}
-use Rattle.rules_prop.proofs.Counting.{one_line, read_as}
-use Rattle.rules_prop.proofs.ReadCites.{no_subproofs}
+use Rattle.rules_prop.proofs.Counting.{one_line}
+use Rattle.nested_proofs.proofs.ReadCites.{read_as}
+use Rattle.nested_proofs.proofs.ReadCites.{no_subproofs}
 use Rattle.rules_prop.proofs.rules.by_one.Goals as goal
 
 pub returns-in-Some : goal.returns-in-Some

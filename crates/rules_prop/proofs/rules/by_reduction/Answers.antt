@@ -1,6 +1,7 @@
 -- One subproof is all that is cited.
 use Rattle.std.proofs.Common.{arith}
-use Rattle.rules_prop.proofs.Counting.{in_all, one_reduction}
+use Rattle.nested_proofs.proofs.CiteCounts.{in_all}
+use Rattle.rules_prop.proofs.Counting.{one_reduction}
 use Rattle.rules_prop.proofs.rules.by_reduction.Goals as goal
 
 pub returns-in_default-2 : goal.returns-in_default-2

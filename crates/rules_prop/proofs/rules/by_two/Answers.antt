@@ -1,6 +1,7 @@
 -- Two lines are all that is cited.
 use Rattle.std.proofs.Common.{arith, sym}
-use Rattle.rules_prop.proofs.Counting.{in_all, two_lines, pair_of}
+use Rattle.nested_proofs.proofs.CiteCounts.{in_all, pair_of}
+use Rattle.rules_prop.proofs.Counting.{two_lines}
 use Rattle.rules_prop.proofs.Showing.{one_missing}
 use Rattle.rules_prop.proofs.rules.by_two.Goals as goal
 

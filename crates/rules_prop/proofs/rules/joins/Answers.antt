@@ -3,7 +3,7 @@ use Rattle.std.proofs.Common.{◌∙◌, sym, ap}
 use Rattle.fol_core.specs.declared.sent.Sent.TheVariants.{And}
 use Rattle.nested_proofs.specs.ReadOff.{sentences_read, subproofs_read}
 use Rattle.rules_prop.proofs.Counting.{no_subproof}
-use Rattle.rules_prop.proofs.ReadCites.{no_subproofs}
+use Rattle.nested_proofs.proofs.ReadCites.{no_subproofs}
 use Rattle.rules_prop.proofs.Showing.{joined}
 use Rattle.rules_prop.proofs.rules.joins.Goals as goal
 

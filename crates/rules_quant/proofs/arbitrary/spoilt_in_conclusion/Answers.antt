@@ -1,6 +1,6 @@
 -- One subproof is all that is cited.
 use Rattle.std.proofs.Common.{arith, get_or}
-use Rattle.rules_prop.proofs.Counting.{in_all, single}
+use Rattle.nested_proofs.proofs.CiteCounts.{in_all, single}
 use Rattle.rules_quant.proofs.Citing.{one_subproof, alone_spoils}
 use Rattle.rules_quant.proofs.arbitrary.spoilt_in_conclusion.Goals as goal
 

@@ -6,7 +6,7 @@ use Rattle.fol_core.specs.declared.sent.Sent.{Sent}
 use Rattle.deriv_laws.specs.declared.line.Cite.{Cite}
 use Rattle.nested_proofs.specs.Scope.{prepend}
 use Rattle.nested_proofs.specs.ReadOff.{sentences_read, subproofs_read, subproof_between}
-use Rattle.rules_prop.proofs.Counting.{in_all, pair_of}
+use Rattle.nested_proofs.proofs.CiteCounts.{in_all, pair_of}
 use Rattle.rules_quant.proofs.Citing.{one_of_each, sub_first, line_first, spoils_ex}
 use Rattle.rules_quant.proofs.arbitrary.spoilt_in_either.Goals as goal
 

@@ -2,7 +2,7 @@
 use Rattle.std.proofs.Common.{arith, get_or, false}
 use Rattle.deriv_laws.specs.declared.line.Cite.{Cite}
 use Rattle.nested_proofs.specs.ReadOff.{sentences_read, subproofs_read, stated_at, subproof_between}
-use Rattle.rules_prop.proofs.Counting.{in_all, pair_of}
+use Rattle.nested_proofs.proofs.CiteCounts.{in_all, pair_of}
 use Rattle.rules_quant.proofs.Citing.{one_of_each, sub_first, line_first, from_each}
 use Rattle.rules_quant.proofs.rules.by_arbitrary_instance.Goals as goal
 

@@ -1,6 +1,6 @@
 -- One subproof is all that is cited.
 use Rattle.std.proofs.Common.{arith, get_or}
-use Rattle.rules_prop.proofs.Counting.{in_all, single}
+use Rattle.nested_proofs.proofs.CiteCounts.{in_all, single}
 use Rattle.rules_quant.proofs.Citing.{one_subproof, general_cited}
 use Rattle.rules_quant.proofs.rules.by_general_proof.Goals as goal
 

@@ -2,8 +2,8 @@
 use Rattle.std.proofs.Common.{◌≡◌, ◌∷◌, []}
 use Rattle.deriv_laws.specs.declared.rule.Rule.TheVariants as r
 use Rattle.nested_proofs.specs.ReadOff.{sentences_read, subproofs_read}
-use Rattle.rules_prop.proofs.Counting.{read_as}
-use Rattle.rules_prop.proofs.ReadCites.{no_subproofs}
+use Rattle.nested_proofs.proofs.ReadCites.{read_as}
+use Rattle.nested_proofs.proofs.ReadCites.{no_subproofs}
 use Rattle.rules_quant.proofs.Citing.{one_universal}
 use Rattle.rules_quant.proofs.rules.by_instances.Goals as goal
 

@@ -5,9 +5,10 @@ use Rattle.fol_core.specs.declared.sent.Sent.{Sent}
 use Rattle.deriv_laws.specs.declared.rule.Rule.TheVariants as r
 use Rattle.nested_proofs.specs.Scope.{prepend}
 use Rattle.nested_proofs.specs.ReadOff.{sentences_read, subproofs_read}
-use Rattle.rules_prop.proofs.Counting.{in_all, pair_of, read_as}
-use Rattle.rules_prop.proofs.ReadCites.{no_subproofs}
-use Rattle.rules_prop.proofs.Showing.{two_read}
+use Rattle.nested_proofs.proofs.CiteCounts.{in_all, pair_of}
+use Rattle.nested_proofs.proofs.ReadCites.{read_as}
+use Rattle.nested_proofs.proofs.ReadCites.{no_subproofs}
+use Rattle.nested_proofs.proofs.ReadCites.{two_read}
 use Rattle.rules_quant.proofs.Citing.{two_lines, one_missing}
 use Rattle.rules_quant.proofs.rules.by_replacement.Goals as goal
 

@@ -1,8 +1,8 @@
 -- The first cited line is the only one.
 use Rattle.std.proofs.Common.{◌∙◌, ap, sym}
 use Rattle.std.specs.Prelude.{option_to_list}
-use Rattle.rules_prop.proofs.ReadCites.{only_sentence}
-use Rattle.rules_prop.proofs.cited.only_cited.Goals as goal
+use Rattle.nested_proofs.proofs.ReadCites.{only_sentence}
+use Rattle.nested_proofs.proofs.read_off.only_cited.Goals as goal
 
 pub returns-then-not-cite : goal.returns-then-not-cite
 returns-then-not-cite c = record {

@@ -1,5 +1,6 @@
--- What the caller of the check has shown of the line, read off the lines.
-use Rattle.std.proofs.Common.{◌≡◌, ℕ, ◌-◌, ◌<◌, ◌≤◌, true, List, length, ap, sym, subst, ◌∙◌, Some, None}
+-- A step whose cites have passed their tests: what its caller has shown of the line, and what follows from it, read off the
+-- flat lines.
+use Rattle.std.proofs.Common.{◌≡◌, ℕ, ◌-◌, ◌<◌, ◌≤◌, true, Bool, List, length, ap, sym, subst, ◌∙◌, Some, None}
 use Rattle.std.specs.Prelude.{slice_get}
 use Rattle.fol_core.specs.declared.sent.Sent.{Sent}
 use Rattle.deriv_laws.specs.declared.rule.Rule.{Rule}
@@ -8,29 +9,27 @@ use Rattle.nested_proofs.specs.Scope.{Subproof, cited_sentences, cited_subproofs
 use Rattle.nested_proofs.specs.Placed.{Placed}
 use Rattle.nested_proofs.specs.Limits.{AreLines}
 use Rattle.nested_proofs.specs.AtLine.{AtLine}
-use Rattle.nested_proofs.specs.CiteTests.{cites_fault}
+use Rattle.nested_proofs.specs.CiteTests.{cites_fault, is_inferred}
 use Rattle.nested_proofs.specs.Rules.{Follows}
 use Rattle.nested_proofs.specs.FollowsAt.{FollowsAt}
 use Rattle.nested_proofs.specs.ReadOff.{sentences_read, subproofs_read}
 use Rattle.nested_proofs.proofs.Reading.{Agrees, where_agrees}
 use Rattle.nested_proofs.proofs.AtCited.{HasCites, FindsAsRead, line_placed, cites_passed, finds_as_read}
-use Rattle.rules_prop.specs.Propositional.{is_propositional}
-use Rattle.rules_prop.proofs.Counting.{inferred}
 
--- the rule and the cites of line j, as its caller has shown them
-pub record IsReady (ls : List FlatLine) (j : ℕ) (l : FlatLine) : Type 0 where
-  pub rule : is_propositional l.rule ≡ true
+-- the rule and the cites of line j, as its caller has shown them of the line in its proof
+pub record IsReady (is_one : Rule → Bool) (ls : List FlatLine) (j : ℕ) (l : FlatLine) : Type 0 where
+  pub rule : is_one l.rule ≡ true
   pub cites : HasCites ls j l
 
-pub ready : (ls : List FlatLine) (j : ℕ) (l : FlatLine) → AreLines ls → 0 < j → j ≤ length ls → slice_get ls (j - 1) ≡ Some l → AtLine ls j (λ x. is_propositional x.line.rule ≡ true) →
-    AtLine ls j (λ x. cites_fault x.line.rule x.around.scope x.line.cites ≡ None) → IsReady ls j l
-ready ls j l w a b e p q = record { rule = rule; cites = cites }
+pub ready : (is_one : Rule → Bool) → ((rule : Rule) → is_one rule ≡ true → is_inferred rule ≡ true) → (ls : List FlatLine) (j : ℕ) (l : FlatLine) → AreLines ls → 0 < j → j ≤ length ls → slice_get ls (j - 1) ≡ Some l →
+    AtLine ls j (λ x. is_one x.line.rule ≡ true) → AtLine ls j (λ x. cites_fault x.line.rule x.around.scope x.line.cites ≡ None) → IsReady is_one ls j l
+ready is_one inferred ls j l w a b e p q = record { rule = rule; cites = cites }
   where
     same : (x : Placed) → Agrees ls j x → x.line ≡ l
     same x g = let h : Some x.line ≡ Some l = sym g.line ∙ e in cc
 
-    rule : is_propositional l.rule ≡ true
-    rule = let x = line_placed ls j (λ x. is_propositional x.line.rule ≡ true) w a b p in subst (λ (y : FlatLine). is_propositional y.rule ≡ true) (same x.0 x.1) x.2
+    rule : is_one l.rule ≡ true
+    rule = let x = line_placed ls j (λ x. is_one x.line.rule ≡ true) w a b p in subst (λ (y : FlatLine). is_one y.rule ≡ true) (same x.0 x.1) x.2
 
     cites : HasCites ls j l
     cites = let x = line_placed ls j (λ x. cites_fault x.line.rule x.around.scope x.line.cites ≡ None) w a b q in cites_passed ls j x.0 l w b e (inferred l.rule rule) x.1 x.2

@@ -1,7 +1,7 @@
 use Rattle.std.proofs.Common.{◌≡◌, drop}
 use Rattle.nested_proofs.specs.CiteTests.{lines_cited}
 use Rattle.nested_proofs.specs.ReadOff.{sentences_read}
-use Rattle.rules_prop.proofs.cited.only_cited.Given as goal
+use Rattle.nested_proofs.proofs.read_off.only_cited.Given as goal
 
 abbrev pub invariant-loop-cite : goal.invariant-loop-cite
 invariant-loop-cite l = record {

@@ -1,8 +1,0 @@
--- What the cite doesn't show is shown by the later ones, if at all.
-use Rattle.rules_prop.proofs.ReadCites.{case_on}
-use Rattle.rules_prop.proofs.cases.has_case.Goals as goal
-
-pub loop-cite-preserved : goal.loop-cite-preserved
-loop-cite-preserved c =
-    let on = case_on c.args.lines.now c.args.cites.now c.loop-cite.cite-index _ c.args.p.now c.args.s.now c.loop-cite-test.true (λ h. let t = c.is_case.ensures.exact.1 h in cc) in
-    record { on = λ h. on.0 (c.loop-cite.invariant.on h); back = λ h. c.loop-cite.invariant.back (on.1 h) }
