@@ -4,7 +4,10 @@
 # over: conjunctions of sentences about blocks, or atomic sentences with as many names as fit, which have the most tokens a
 # byte. `nested` opens subproofs to depth 29, repeats line 1 in the innermost, and closes one after another by conditional
 # introduction, over and over; it takes no heed of WIDTH. `boxed` opens a boxed constant, takes the instance of line 1, a
-# sentence of about WIDTH bytes, and generalizes it again, over and over.
+# sentence of about WIDTH bytes, and generalizes it again, over and over. `cases` goes from a disjunction of 399 parts by
+# 63 subproofs, of which all but the last end in another sentence behind ten deeper lines, over and over; `letters` cites
+# premises of 399 sentence letters each, all apart, in one step by tautological consequence, which has too many letters. The
+# last two take no heed of WIDTH.
 exec awk -v lines="$1" -v width="$2" -v shape="${3:-blocks}" '
 function atom(letter,    text) {
     text = letter "(a"
@@ -50,6 +53,37 @@ function flat(left, right, both,    line) {
         print line + 2 " | " both " ; & Intro: " line ", " line + 1
     }
 }
+function joined(count, mark, from,    text, i) {
+    for (i = 0; i < count; i++) text = text (i ? mark : "") (from ? "P" from + i : "P")
+    return text
+}
+function cases(    parts, cited, line, i, k) {
+    parts = joined(399, " | ", 0)
+    heading(parts, "P | P")
+    print "1 | " parts " ; Premise"
+    line = 2
+    for (i = 0; i < 62; i++) {
+        cited = cited ", " line "-" line + 10
+        print line++ " | | P ; Assume"
+        for (k = 0; k < 10; k++) print line++ " | | | P ; Assume"
+    }
+    cited = cited ", " line "-" line + 1
+    print line " | | P ; Assume"
+    print line + 1 " | | P | P ; | Intro: " line
+    for (line += 2; line <= lines; line++) print line " | P | P ; | Elim: 1" cited
+}
+function letters(    line, cited) {
+    print "task 1"
+    for (line = 1; line <= lines; line++) print "premise " joined(399, " & ", 1 + 399 * (line - 1))
+    print "goal P"
+    print "con Taut"
+    print "proof 1"
+    for (line = 1; line <= lines; line++) {
+        print line " | " joined(399, " & ", 1 + 399 * (line - 1)) " ; Premise"
+        cited = cited (line > 1 ? ", " : ": ") line
+    }
+    print lines + 1 " | P ; Taut Con" cited
+}
 function boxed(    body, general, line) {
     body = "P(x)"
     while (length(body) + 10 < width) body = body " & R(x,x)"
@@ -66,6 +100,8 @@ function boxed(    body, general, line) {
 BEGIN {
     if (shape == "nested") nested()
     else if (shape == "boxed") boxed()
+    else if (shape == "cases") cases()
+    else if (shape == "letters") letters()
     else if (shape == "terms") flat(atom("P"), atom("Q"), atom("P") " & " atom("Q"))
     else flat(conjunction("Cube(a)"), conjunction("Tet(b)"), \
         "(" conjunction("Cube(a)") ") & (" conjunction("Tet(b)") ")")
