@@ -1,5 +1,5 @@
 -- Words ask for one thing, and a run shows what was asked for.
-use Rattle.std.proofs.Common.{◌≡◌, ◌≢◌, ℕ, List, [], ◌∷◌, refl, sym, ap, ◌∙◌, subst, Option, Some}
+use Rattle.std.proofs.Common.{◌≡◌, ◌≢◌, ℕ, List, [], ◌∷◌, refl, sym, ap, ◌∙◌, Option, Some, arith}
 use Rattle.edge_io.specs.Shelves.{TextsByName}
 use Rattle.tutor_app.specs.Check.{check_answers, check_words}
 use Rattle.tutor_app.specs.Table.{table_answers, table_words}
@@ -10,25 +10,31 @@ use Rattle.tutor_app.specs.Words.{Request, to_check, to_tabulate, to_play, to_ev
 use Rattle.tutor_app.proofs.Telling.{told_runs}
 use Rattle.tutor_app.proofs.TellingShelves.{told_shelved, one_name}
 
--- A command's words are no others'.
+abbrev first_byte : List (List ℕ) → ℕ
+first_byte [] = 0
+first_byte ([] ∷ ws) = 0
+first_byte ((byte ∷ bytes) ∷ ws) = byte
+
+-- A command's words are no others': their first letters differ.
 check_table : check_words ≢ table_words
-check_table = λ e. cc
+check_table = λ e. let d : 99 ≡ 116 = ap first_byte e in omega (arith, d)
 
 check_play : check_words ≢ play_words
-check_play = λ e. cc
+check_play = λ e. let d : 99 ≡ 112 = ap first_byte e in omega (arith, d)
 
 table_play : table_words ≢ play_words
-table_play = λ e. cc
+table_play = λ e. let d : 116 ≡ 112 = ap first_byte e in omega (arith, d)
 
 check_world : (name : List ℕ) → check_words ≢ world_words name
-check_world name = λ e. cc
+check_world name = λ e. let d : 99 ≡ 119 = ap first_byte e in omega (arith, d)
 
 table_world : (name : List ℕ) → table_words ≢ world_words name
-table_world name = λ e. cc
+table_world name = λ e. let d : 116 ≡ 119 = ap first_byte e in omega (arith, d)
 
 play_world : (name : List ℕ) → play_words ≢ world_words name
-play_world name = λ e. cc
+play_world name = λ e. let d : 112 ≡ 119 = ap first_byte e in omega (arith, d)
 
+-- Words ask for one thing.
 pub asked_once : (words : List (List ℕ)) (a b : Request) → AskFor words a → AskFor words b → a ≡ b
 asked_once words to_check to_check h k = refl
 asked_once words to_check to_tabulate h k = absurd (check_table (sym h ∙ k))
