@@ -11,3 +11,4 @@ pub mod Bounding
 pub mod Deciding
 pub mod Cases
 pub mod Sound
+pub mod ByDigest

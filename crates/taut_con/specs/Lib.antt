@@ -7,3 +7,5 @@ pub mod Laws
 pub mod Gathered
 pub mod Compiled
 pub mod Words
+pub mod Digests
+pub mod Indexed

@@ -3,6 +3,8 @@
 
 mod answer;
 mod consequence;
+mod digest;
+mod distinct;
 mod evaluation;
 mod formula;
 mod laws;

@@ -5,4 +5,4 @@ use Rattle.taut_con.specs.Gathered.{with_each}
 use Rattle.taut_con.proofs.letters.+gather.Given as goal
 
 abbrev pub invariant-gather_all-loop-s : goal.invariant-gather_all-loop-s
-invariant-gather_all-loop-s l = l.found ≡ with_each l.fn.found (flat_map letter_occurrences (take l.s-index l.sentences))
+invariant-gather_all-loop-s l = l.all ≡ with_each l.fn.found (flat_map letter_occurrences (take l.s-index l.sentences))
