@@ -13,7 +13,7 @@ use Rattle.nested_proofs.specs.Rules.{Goes}
 use Rattle.nested_proofs.specs.ReadOff.{stated_by, stated_at, begun_by, subproof_between, concluded_by, subproofs_read}
 use Rattle.bit_sets.specs.BitSets.{has}
 use Rattle.rules_prop.specs.Shown.{SomeGoes}
-use Rattle.rules_prop.specs.Ending.{EndsIn, AreEnding, SomeBegins}
+use Rattle.rules_prop.specs.inside.Ending.{EndsIn, AreEnding, SomeBegins}
 
 -- The first places, so many, are those of subproofs that end in s, and no other place is in the set.
 pub record EndingSoFar (ls : List FlatLine) (cs : List Cite) (s : Sent) (n bits : ℕ) : Type 0 where

@@ -10,7 +10,7 @@ use Rattle.nested_proofs.specs.Scope.{Subproof}
 use Rattle.nested_proofs.specs.Rules.{Follows}
 use Rattle.nested_proofs.specs.CiteTests.{lines_cited, subproofs_cited, counts_fit, is_inferred}
 use Rattle.nested_proofs.proofs.CiteCounts.{both, exactly}
-use Rattle.rules_prop.specs.Premises.{is_from_one, is_from_two}
+use Rattle.rules_prop.specs.inside.Premises.{is_from_one, is_from_two}
 use Rattle.rules_prop.specs.Propositional.{is_propositional}
 
 -- a rule from one line cites one line and no subproof

@@ -13,7 +13,7 @@ use Rattle.nested_proofs.specs.Rules.{Goes, Follows}
 use Rattle.nested_proofs.specs.CiteTests.{subproofs_cited}
 use Rattle.nested_proofs.specs.ReadOff.{stated_at, subproof_between, sentences_read, subproofs_read}
 use Rattle.rules_prop.specs.Shown.{GoesAt, SomeGoes}
-use Rattle.rules_prop.specs.Premises.{is_from_two}
+use Rattle.rules_prop.specs.inside.Premises.{is_from_two}
 use Rattle.rules_prop.proofs.Counting.{few}
 use Rattle.nested_proofs.proofs.ReadCites.{no_subproofs, two_read}
 

@@ -1,4 +1,3 @@
 pub mod Propositional
-pub mod Premises
 pub mod Shown
-pub mod Ending
+pub mod inside

@@ -2,7 +2,7 @@ ghost use Rattle.std.specs.Prelude.{◌≡◌, ◌↔◌, ◌≤◌, IsTrue, Som
 ghost use Rattle.std.specs.List.{AllByRecursion};
 ghost use Rattle.nested_proofs.specs.ReadOff.{IsWithin, subproofs_read};
 ghost use Rattle.rules_prop.specs.Shown.{SomeGoes};
-ghost use Rattle.rules_prop.specs.Ending.{AreEnding, EndsIn, SomeBegins};
+ghost use Rattle.rules_prop.specs.inside.Ending.{AreEnding, EndsIn, SomeBegins};
 
 use crate::subproofs::is;
 use bit_sets::BitSet;

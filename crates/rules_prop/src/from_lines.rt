@@ -4,7 +4,7 @@ ghost use Rattle.fol_core.specs.declared.sent.Sent.TheVariants as form;
 ghost use Rattle.deriv_laws.specs.declared.rule.Rule.TheVariants as rules;
 ghost use Rattle.nested_proofs.specs.Rules.{Follows, IffFrom};
 ghost use Rattle.rules_prop.specs.Shown.{IsDrawnFrom};
-ghost use Rattle.rules_prop.specs.Premises.{is_from_one, is_from_two};
+ghost use Rattle.rules_prop.specs.inside.Premises.{is_from_one, is_from_two};
 
 use deriv_laws::Rule;
 use fol_core::{Sent, contains, same};

@@ -5,7 +5,7 @@ ghost use Rattle.nested_proofs.specs.CiteTests.{counts_fit};
 ghost use Rattle.nested_proofs.specs.ReadOff.{IsWithin};
 ghost use Rattle.rules_prop.specs.Shown.{FollowsFrom};
 ghost use Rattle.rules_prop.specs.Propositional as propositional;
-ghost use Rattle.rules_prop.specs.Premises as cited;
+ghost use Rattle.rules_prop.specs.inside.Premises as cited;
 
 use crate::cases::covers;
 use crate::cited::all_cited;

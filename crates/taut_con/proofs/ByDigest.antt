@@ -13,8 +13,8 @@ use Rattle.fol_core.specs.declared.sent.Sent.{Sent}
 use Rattle.fol_core.proofs.Equality.{alike_refl, alike_same}
 use Rattle.deriv_laws.specs.Discharge.{alike}
 use Rattle.taut_con.specs.Gathered.{is_among}
-use Rattle.taut_con.specs.Digests.{digest}
-use Rattle.taut_con.specs.Indexed.{has_digest, last_with, or_zero, IsLinked, IsIndexed}
+use Rattle.taut_con.specs.inside.Digests.{digest}
+use Rattle.taut_con.specs.inside.Indexed.{has_digest, last_with, or_zero, IsLinked, IsIndexed}
 
 -- The sentence is one of the first so many.
 abbrev pub among_first : List Sent → Sent → ℕ → Bool

@@ -7,5 +7,4 @@ pub mod Laws
 pub mod Gathered
 pub mod Compiled
 pub mod Words
-pub mod Digests
-pub mod Indexed
+pub mod inside

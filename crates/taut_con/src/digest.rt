@@ -1,6 +1,6 @@
 ghost use Rattle.std.specs.Prelude.{◌≡◌, map};
 ghost use Rattle.std.specs.List.{fold};
-ghost use Rattle.taut_con.specs.Digests as digests;
+ghost use Rattle.taut_con.specs.inside.Digests as digests;
 
 use fol_core::{Ident, Sent, Term};
 

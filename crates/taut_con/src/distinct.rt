@@ -2,8 +2,8 @@ ghost use Rattle.std.specs.Prelude.{◌≡◌, IfOk, [], length};
 ghost use Rattle.std.specs.Ordering.{nat_cmp};
 ghost use Rattle.std.specs.BTreeMap.{get};
 ghost use Rattle.taut_con.specs.Gathered.{is_among, with_one};
-ghost use Rattle.taut_con.specs.Digests as digests;
-ghost use Rattle.taut_con.specs.Indexed.{IsLinked, last_with, or_zero};
+ghost use Rattle.taut_con.specs.inside.Digests as digests;
+ghost use Rattle.taut_con.specs.inside.Indexed.{IsLinked, last_with, or_zero};
 
 use crate::digest::digest;
 use fol_core::{Sent, Sents, copy, same};
@@ -27,7 +27,7 @@ pub(crate) struct Distinct {
 impl Model for Distinct {
     ghost use Rattle.std.specs.Prelude.{List};
     ghost use Rattle.fol_core.specs.declared.sent.Sent.{Sent as Sentence};
-    ghost use Rattle.taut_con.specs.Indexed.{IsIndexed};
+    ghost use Rattle.taut_con.specs.inside.Indexed.{IsIndexed};
     ghost use Rattle.fol_core.specs.contracts.sent.Sent as sentence_row;
     ghost use Rattle.std.specs.Coded.{codes};
 

@@ -1,6 +1,6 @@
 use Rattle.std.proofs.Common.{take}
 use Rattle.std.specs.List.{AllByRecursion}
-use Rattle.rules_prop.specs.Ending.{SomeBegins}
+use Rattle.rules_prop.specs.inside.Ending.{SomeBegins}
 use Rattle.rules_prop.proofs.cases.all_begin.Given as goal
 
 abbrev pub invariant-loop-part : goal.invariant-loop-part

@@ -1,6 +1,6 @@
 use Rattle.std.proofs.Common.{◌≡◌, take}
 use Rattle.std.specs.List.{fold}
-use Rattle.taut_con.specs.Digests.{mix}
+use Rattle.taut_con.specs.inside.Digests.{mix}
 use Rattle.taut_con.proofs.digest.word_digest.Given as goal
 
 abbrev pub invariant-loop-byte : goal.invariant-loop-byte

@@ -2,7 +2,7 @@
 use Rattle.std.proofs.Common.{◌≡◌, [], ◌∷◌, ◌++◌, length, sym, ap, subst, ◌∙◌, Some}
 use Rattle.std.specs.Ordering.{nat_cmp}
 use Rattle.std.specs.BTreeMap.{Updates}
-use Rattle.taut_con.specs.Indexed.{IsIndexed}
+use Rattle.taut_con.specs.inside.Indexed.{IsIndexed}
 use Rattle.taut_con.proofs.ByDigest.{indexed_more}
 use Rattle.taut_con.proofs.distinct.Distinct.with.Goals as goal
 

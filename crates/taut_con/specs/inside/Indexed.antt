@@ -3,7 +3,7 @@ use Rattle.std.specs.Prelude.{◌≡◌, ℕ, zero, suc, ◌==◌, Bool, false, 
 use Rattle.std.specs.Ordering.{nat_cmp}
 use Rattle.std.specs.BTreeMap.{BTreeMap, get}
 use Rattle.fol_core.specs.declared.sent.Sent.{Sent}
-use Rattle.taut_con.specs.Digests.{digest}
+use Rattle.taut_con.specs.inside.Digests.{digest}
 
 -- There is a sentence, and it has the digest d.
 abbrev pub has_digest : ℕ → Option Sent → Bool
