@@ -6,7 +6,8 @@ use Rattle.hintikka_game.proofs.OneReplay.{one_replay, one_refusal, never_both a
 use Rattle.play_text.specs.declared.play.Play.{Play}
 use Rattle.play_text.proofs.Once.{play_once, fault_once, never_both}
 use Rattle.tutor_app.specs.Play.{IsPlayReply, no_value, no_choice, was_played, play_answers, faulty_play, of_play, refused_reply, played_reply}
-use Rattle.fault_words.specs.WorldFaults.{game_fault_text, play_fault_text, truth_fault_text}
+use Rattle.fault_words.specs.WorldFaults.{game_fault_text, play_fault_text}
+use Rattle.tutor_app.specs.World.{answer_word}
 use Rattle.tutor_app.specs.Report.{unreadable_reply}
 use Rattle.tutor_app.specs.Reply.{IsReplyCode}
 use Rattle.tutor_app.specs.declared.tool.Reply.{Reply}
@@ -24,7 +25,7 @@ play_known _ _ (of_play bytes play reply h k) = reply_known play reply k
 
 -- There is one reply at most to a play.
 one_reply : (play : Play) (r q : Reply) → IsPlayReply play r → IsPlayReply play q → r ≡ q
-one_reply _ _ _ (no_value play f h) (no_value _ g k) = ap (λ x. refused_reply (truth_fault_text x)) (sym h ∙ k)
+one_reply _ _ _ (no_value play f h) (no_value _ g k) = ap (λ x. refused_reply (answer_word x)) (sym h ∙ k)
 one_reply _ _ _ (no_value play f h) (no_choice _ v e k l) = let c = sym h ∙ k in cc
 one_reply _ _ _ (no_value play f h) (was_played _ v a k l) = let c = sym h ∙ k in cc
 one_reply _ _ _ (no_choice play v e h l) (no_value _ g k) = let c = sym h ∙ k in cc

@@ -70,9 +70,9 @@ fn run<S: Source, W: Sink, F: Shelf>(
     output: &mut W,
     shelf: &mut F,
 ) -> u8
-    ensures runs { RunsAs (request_of command) (F.texts shelf.old) (input.new ≡ input.old) (S.left input.old) (S.left input.new) (W.taken output.old) (W.taken output.new) result }
-    ensures untouched { request_of command ≡ nothing → (input.new ≡ input.old) × (output.new ≡ output.old) × (shelf.new ≡ shelf.old) }
-    ensures shelf_idle { NamesNoText (request_of command) → shelf.new ≡ shelf.old }
+    ensures runs { RunsAs (request_of command.entry) (F.texts shelf.old) (input.new ≡ input.old) (S.left input.old) (S.left input.new) (W.taken output.old) (W.taken output.new) result }
+    ensures untouched { request_of command.entry ≡ nothing → (input.new ≡ input.old) × (output.new ≡ output.old) × (shelf.new ≡ shelf.old) }
+    ensures shelf_idle { NamesNoText (request_of command.entry) → shelf.new ≡ shelf.old }
     ensures read_fault { result ≡ 4 → Rose (S.faults input.old) (S.faults input.new) }
     ensures write_fault { result ≡ 5 → Rose (W.faults output.old) (W.faults output.new) }
     ensures shelf_fault { result ≡ 8 → Rose (F.faults shelf.old) (F.faults shelf.new) }
