@@ -153,7 +153,7 @@ contrary_refutes gs k false s m (f.Eq t u) e q =
     c.closes_identity gs t k (subst (λ z. Elem gs (Not z)) (e ∙ v.rolls-Eq t u ∙ ap (λ z. Eq t z) (sym (same_only t u q))) m)
 contrary_refutes gs k h s m _ e t = absurd (true≢false (sym t))
 
-some_one : {X : Type 0} (test : X → Bool) (xs : List X) → list_any test xs ≡ true → (x : X) × Elem xs x × (test x ≡ true)
+pub some_one : {X : Type 0} (test : X → Bool) (xs : List X) → list_any test xs ≡ true → (x : X) × Elem xs x × (test x ≡ true)
 some_one test [] h = absurd (true≢false (sym h))
 some_one test (x ∷ xs) h = elim (or_cases (test x) (list_any test xs) h) [
   | inl e ↦ (x, inl refl, e)

@@ -1,0 +1,4 @@
+pub mod Mixing
+pub mod Indexing
+pub mod Gathering
+pub mod Marking

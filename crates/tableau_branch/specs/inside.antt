@@ -1,0 +1,4 @@
+pub mod Weight
+pub mod Index
+pub mod Gathered
+pub mod Marks
