@@ -1,0 +1,5 @@
+pub mod Faults
+pub mod Document
+pub mod Values
+pub mod Lists
+pub mod Kinds
