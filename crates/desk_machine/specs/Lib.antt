@@ -1,0 +1,15 @@
+pub mod Rules
+pub mod Plans
+pub mod Allowed
+pub mod Users
+pub mod Exercises
+pub mod Enrolling
+pub mod Setting
+pub mod Extending
+pub mod Submitting
+pub mod Grading
+pub mod Reading
+pub mod Ordering
+pub mod Jobs
+pub mod Books
+pub mod Machine
