@@ -3,5 +3,4 @@ pub mod RuleForm
 pub mod ZoneForm
 pub mod CivilText
 pub mod Due
-pub mod Late
 pub mod inside

@@ -5,9 +5,8 @@
 mod civil;
 mod digits;
 mod due;
-mod late;
 mod rule;
 mod zone;
 
+pub use course_marks::{close_instant, course_mark, credit, late_days};
 pub use due::{DueFault, due_instant};
-pub use late::{credit, late_days};

@@ -1,7 +1,7 @@
 -- Which settings and grades may be kept.
 use Rattle.std.specs.Prelude.{ℕ, Bool, true, ◌&&◌, ◌||◌, ◌==◌, nat_le, List, [], length, if◌then◌else◌}
 use Rattle.std.specs.Str.{bytes_eq, is_utf8}
-use Rattle.desk_forms.specs.Marks.{last_moment}
+use Rattle.course_marks.specs.Marks.{last_moment}
 use Rattle.desk_forms.specs.Words.{identifier}
 use Rattle.desk_keeper.specs.declared.rows.Grade.{Grade}
 use Rattle.desk_keeper.specs.declared.rows.Settings.{Settings}

@@ -4,7 +4,7 @@ use Rattle.std.specs.Str.{bytes_eq}
 use Rattle.std.specs.List.{cons_option}
 use Rattle.std.specs.Option.{option_map, unwrap_or}
 use Rattle.std.specs.declared.option.Option.{Option}
-use Rattle.desk_forms.specs.Marks.{course_mark}
+use Rattle.course_marks.specs.Marks.{course_mark}
 use Rattle.desk_keeper.specs.declared.rows.ExerciseRow.{ExerciseRow}
 use Rattle.desk_keeper.specs.declared.rows.SubmissionRow.{SubmissionRow}
 use Rattle.desk_keeper.specs.declared.rows.UserRow.{UserRow}

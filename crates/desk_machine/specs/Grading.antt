@@ -1,7 +1,7 @@
 -- The current grade of a submission, and what it earns.
 use Rattle.std.specs.Prelude.{ℕ, Bool, ◌==◌, nat_lt, List, filter, fold, Some, None, if◌then◌else◌}
 use Rattle.std.specs.declared.option.Option.{Option}
-use Rattle.desk_forms.specs.Marks.{credit}
+use Rattle.course_marks.specs.Marks.{credit}
 use Rattle.desk_keeper.specs.declared.rows.ExerciseRow.{ExerciseRow}
 use Rattle.desk_keeper.specs.declared.rows.GradeRow.{GradeRow}
 use Rattle.desk_keeper.specs.declared.rows.SubmissionRow.{SubmissionRow}

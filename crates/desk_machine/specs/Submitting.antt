@@ -4,7 +4,7 @@ use Rattle.std.specs.Str.{bytes_eq}
 use Rattle.std.specs.List.{find}
 use Rattle.std.specs.declared.option.Option.{Option}
 use Rattle.desk_forms.specs.Words.{key as is_key}
-use Rattle.desk_forms.specs.Marks.{close_instant, late_days}
+use Rattle.course_marks.specs.Marks.{close_instant, late_days}
 use Rattle.desk_keeper.specs.declared.rows.ExerciseRow.{ExerciseRow}
 use Rattle.desk_keeper.specs.declared.rows.ExtensionRow.{ExtensionRow}
 use Rattle.desk_keeper.specs.declared.rows.SubmissionRow.{SubmissionRow}

@@ -21,7 +21,7 @@ use crate::grades::{credit_of, current};
 use crate::reading::exercise_names;
 use crate::users::{in_32_bits, is_student, is_teacher};
 use crate::{Bests, Book, BookFault, BookRow, BookRows, Known};
-use desk_forms::course_mark;
+use course_marks::course_mark;
 use desk_keeper::{ExerciseRow, SubmissionRow, Tables, UserRow};
 use edge_io::Bytes;
 use lists::Copied;

@@ -2,7 +2,7 @@ ghost use Rattle.std.specs.Prelude.{◌≡◌, Some, option_copied};
 ghost use Rattle.desk_machine.specs.Grading.{credit_of, current, later_of};
 
 use crate::exercises::version_of;
-use desk_forms::credit;
+use course_marks::credit;
 use desk_keeper::{ExerciseRow, GradeRow, SubmissionRow};
 
 /// The current grade of the submission with this ticket: the one by the greatest version.

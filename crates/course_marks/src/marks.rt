@@ -1,5 +1,5 @@
 ghost use Rattle.std.specs.Prelude.{◌≡◌};
-ghost use Rattle.desk_forms.specs.Marks.{close_instant, course_mark, credit, late_days};
+ghost use Rattle.course_marks.specs.Marks.{close_instant, course_mark, credit, late_days};
 
 /// The greatest due moment, in seconds since 1970.
 pub const LAST_MOMENT: u64 = 253_370_764_800;
