@@ -7,6 +7,7 @@ use lists::Listed;
 use std::alloc::{AllocError, Global};
 
 /// The words of a row: its kind, and four more, of which those that aren't there are empty.
+#[derive(Clone, Copy)]
 struct Words<'a> {
     kind: &'a str,
     first: &'a str,
