@@ -27,13 +27,13 @@ fn answered(
     let file = bytes(alloc, "")?;
     let planned = plan_submit(alloc, known, tables, &name, &key, &file, moment(at))?;
     let count = planned.rows.len();
-    match planned.answer {
+    match &planned.answer {
         Ok(kept) => {
             let number = kept.number;
             let days = kept.late_days;
             format!(in alloc; "number {number}, {days} late days, {count} rows")
         }
-        Err(fault) => refused(alloc, &fault),
+        Err(fault) => refused(alloc, fault),
     }
 }
 
