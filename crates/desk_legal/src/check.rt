@@ -1,4 +1,4 @@
-ghost use Rattle.std.specs.Prelude.{◌≡◌, IfOk};
+ghost use Rattle.std.specs.Prelude.{◌≡◌, Ok};
 ghost use Rattle.desk_legal.specs.Legal.{first_illegal};
 
 use crate::exercises::{bad_exercise, bad_extension};
@@ -12,7 +12,7 @@ use std::alloc::{AllocError, Global};
 /// The least table, from 1 to 6, and its least row, from 1, that breaks a rule of legal tables; none where the tables are
 /// legal. It takes no memory, so its error never comes.
 pub fn check_tables(_alloc: Global, tables: &Tables) -> Result<Option<(u8, u64)>, AllocError>
-    ensures value { IfOk result (λ bad. bad ≡ first_illegal tables.now) }
+    ensures value { result ≡ Ok (first_illegal tables.now) }
 {
     Ok(first_illegal(tables))
 }
